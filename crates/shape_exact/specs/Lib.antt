@@ -1,0 +1,5 @@
+pub mod Each
+pub mod Names
+pub mod Days
+pub mod Shapes
+pub mod Yards

@@ -1,0 +1,17 @@
+//! Blocks.
+
+use crate::{Name, Shape};
+
+/// A block to be built: its footprint, the quarter turns in which it may stand (`turns[q]` is of q quarter turns
+/// counterclockwise), the open days that its work takes, the first day on which it may start, the last day on which it
+/// may end without tardiness, and the weight of each day of tardiness.
+#[derive(Clone, Default, Drop)]
+pub struct Block {
+    pub name: Name,
+    pub shape: Shape,
+    pub turns: [bool; 4],
+    pub duration: u16,
+    pub release: u16,
+    pub due: u16,
+    pub weight: u16,
+}

@@ -1,0 +1,24 @@
+//! Footprints and the plain yard.
+//!
+//! A footprint is a convex shape with whole-number vertices, counterclockwise, its least x and least y 0. A unit of
+//! length is one cell of the plate. A yard is its days, its plates and its blocks, each within the limits of
+//! `docs/RULES.md`. No call of this crate takes memory.
+#![tactic(auto)]
+
+mod block;
+mod day_list;
+mod memory;
+mod name;
+mod plate;
+mod point;
+mod shape;
+mod yard;
+
+pub use block::Block;
+pub use day_list::DayList;
+pub use memory::NoMemory;
+pub use name::Name;
+pub use plate::Plate;
+pub use point::Point;
+pub use shape::{Shape, ShapeFault};
+pub use yard::Yard;
