@@ -1,0 +1,11 @@
+//! Placements and their codes.
+//!
+//! The placements of a block, in the order of start, plate, turn, y and x, are numbered from 0: a code is a number in
+//! that order. The list is never made: a code is computed from a placement and a placement from a code.
+#![tactic(auto)]
+
+mod codes;
+mod placement;
+
+pub use codes::Codes;
+pub use placement::Placement;

@@ -1,0 +1,53 @@
+-- What a yard leaves to choose.
+use Rattle.std.specs.Prelude.{ℕ, ◌+◌, ◌*◌, max, min, List, map, length, Option, Some, None, slice_get}
+use Rattle.std.specs.List.{range_with_len}
+use Rattle.std.specs.Option.{option_map_or}
+use Rattle.shape_exact.specs.Yards.{PlainYard}
+use Rattle.shape_exact.specs.declared.block.Block.{Block}
+use Rattle.shape_exact.specs.declared.plate.Plate.{Plate}
+use Rattle.shape_exact.specs.Shapes.{cells}
+use Rattle.plate_calendar.specs.Calendars.{open_days, open_between}
+use Rattle.shape_exact.specs.Each.{sum_below}
+use Rattle.code_table.specs.declared.placement.Placement.{Placement}
+use Rattle.code_table.specs.Placements.{placements, own_cost}
+use Rattle.plan_rule.specs.Choices.{Choices}
+use Rattle.plan_rule.specs.Clashes.{Clash}
+
+-- a figure of the block with this number
+abbrev pub figure : PlainYard → (Block → ℕ) → ℕ → ℕ
+figure yard f b = option_map_or f (slice_get yard.blocks b) 0
+
+-- how many open days of a plate lie in a window
+abbrev pub plate_days : PlainYard → ℕ → ℕ → Plate → ℕ
+plate_days yard first last plate = open_between (open_days yard.days plate.closed) first last
+
+-- the cells of the plates, once for each open day in a window
+unfoldable pub capacity : PlainYard → ℕ → ℕ → ℕ
+capacity yard first last =
+    sum_below (length yard.plates)
+    (λ p. option_map_or (λ plate. plate_days yard first last plate * (plate.height * plate.width)) (slice_get yard.plates p) 0)
+
+abbrev pub taken_by : PlainYard → ℕ → ℕ → Option Block → Option Placement → ℕ
+taken_by yard first last None p = 0
+taken_by yard first last (Some block) None = 0
+taken_by yard first last (Some block) (Some p) =
+    option_map_or (plate_days yard (max first p.start) (min last p.end)) (slice_get yard.plates p.plate) 0 * cells block.shape
+
+-- the cells of a block at a code, once for each open day of its plate in its span and in a window
+unfoldable pub taken : PlainYard → ℕ → ℕ → ℕ → ℕ → ℕ
+taken yard first last b code = taken_by yard first last (slice_get yard.blocks b) (slice_get (placements yard b) code)
+
+-- the blocks' codes, their costs and their clashes, and the figures for the energy
+unfoldable pub choices : PlainYard → Choices
+choices yard = record {
+  counts = map (λ b. length (placements yard b)) (range_with_len 0 (length yard.blocks));
+  cost = own_cost yard;
+  Clash = Clash yard;
+  days = yard.days;
+  release = figure yard (λ block. block.release);
+  due = figure yard (λ block. block.due);
+  weight = figure yard (λ block. block.weight);
+  work = figure yard (λ block. block.duration * cells block.shape);
+  capacity = capacity yard;
+  taken = taken yard;
+}
