@@ -1,1 +1,4 @@
 pub mod DayLaws
+pub mod EachLaws
+pub mod CellLaws
+pub mod TurnLaws
