@@ -1,0 +1,12 @@
+-- What an option that is something came from.
+use Rattle.std.proofs.Common.{◌≡◌, Option, Some, None, option_map, refl}
+use Rattle.std.proofs.lemmas.Option.{none-some, same_Some}
+use Rattle.text_parts.specs.Parts.{◌>>=◌}
+
+pub bind_some : {A B : Type 0} (o : Option A) (f : A → Option B) (y : B) → (o >>= f) ≡ Some y → (x : A) × (o ≡ Some x) × (f x ≡ Some y)
+bind_some None f y e = absurd (none-some y e)
+bind_some (Some x) f y e = (x, refl, e)
+
+pub map_some : {A B : Type 0} (f : A → B) (o : Option A) (y : B) → option_map f o ≡ Some y → (x : A) × (o ≡ Some x) × (f x ≡ y)
+map_some f None y e = absurd (none-some y e)
+map_some f (Some x) y e = (x, refl, same_Some (f x) y e)
