@@ -1,9 +1,8 @@
 -- A day in its place.
-use Rattle.std.proofs.Common.{◌≡◌, ℕ, zero, suc, ◌+◌, ◌-◌, ◌≤◌, ◌<◌, List, [], ◌∷◌, ◌++◌, length, take, drop, true, false, refl, ap, arith, nat_lt, nat_le, Bool, cond, sym, ◌∙◌, nat_eq, inl, inr, rules}
+use Rattle.std.proofs.Common.{◌≡◌, ℕ, suc, ◌+◌, ◌≤◌, ◌<◌, List, [], ◌∷◌, length, true, false, refl, ap, arith, nat_lt, inl, inr}
 use Rattle.std.specs.List.{insert}
 use Rattle.std.proofs.lemmas.Bool.{cases_Bool}
 use Rattle.std.proofs.lemmas.Bool.Decides.{nat_tests}
-use Rattle.std.proofs.lemmas.Grind.{common_steps}
 use Rattle.shape_exact.specs.Days.{insert_day, place_of, are_days, has_day, with_day}
 
 pub insert_day-at_place : (d : ℕ) (ds : List ℕ) → insert ds (place_of d ds) d ≡ insert_day d ds

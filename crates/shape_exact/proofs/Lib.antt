@@ -18,3 +18,5 @@ pub mod RowLaws
 pub mod WallLaws
 pub mod FlipLaws
 pub mod ZipLaws
+pub mod YardLaws
+pub mod ShapeLaws

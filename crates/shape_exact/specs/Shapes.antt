@@ -1,7 +1,7 @@
 -- Points, what is strictly inside a shape, and when two shapes are apart.
-use Rattle.std.specs.Prelude.{◌≡◌, ℕ, zero, suc, ◌+◌, ◌*◌, ◌<◌, ℤ, pos, ◌+ℤ◌, ◌-ℤ◌, ◌*ℤ◌, ◌≤ℤ◌, ◌<ℤ◌, neg_ℤ, ◌≤◌, ◌≢◌, length, slice_get, Some, All, Any, Bool, IsTrue, List, [], ◌∷◌, ◌++◌, map, fold, if◌then◌else◌, int_lt, unsigned_abs}
+use Rattle.std.specs.Prelude.{◌≡◌, ℕ, zero, suc, ◌+◌, ◌*◌, ◌<◌, ℤ, pos, ◌+ℤ◌, ◌-ℤ◌, ◌*ℤ◌, ◌≤ℤ◌, ◌<ℤ◌, neg_ℤ, ◌≤◌, ◌≢◌, length, All, Any, Bool, IsTrue, List, [], ◌∷◌, ◌++◌, map, fold, if◌then◌else◌, int_lt, unsigned_abs}
 use Rattle.std.specs.Int.{int_min, int_max}
-use Rattle.std.specs.List.{zip, list_all}
+use Rattle.std.specs.List.{zip, list_all, AllPairs}
 use Rattle.shape_exact.specs.declared.point.Point.{Point}
 use Rattle.shape_exact.specs.Each.{sum_below}
 
@@ -82,6 +82,6 @@ pub record IsShape (vs : List Point) : Type 0 where
   pub low_x : least (λ p. p.x) vs ≡ pos 0
   pub low_y : least (λ p. p.y) vs ≡ pos 0
   pub reach : All (λ v. (v.x ≤ℤ pos 2000) × (v.y ≤ℤ pos 2000)) vs
-  pub distinct : (i j : ℕ) (v w : Point) → i < j → slice_get vs i ≡ Some v → slice_get vs j ≡ Some w → v ≢ w
+  pub distinct : AllPairs (λ v w. v ≢ w) vs
   pub convex : IsConvex vs
   pub wide : Any (λ e. Any (λ v. pos 0 <ℤ cross e.0 e.1 v) vs) (edges vs)

@@ -1,6 +1,6 @@
 -- The plain yard: days, plates and blocks within the limits.
-use Rattle.std.specs.Prelude.{◌≡◌, ℕ, ◌+◌, ◌≤◌, ◌<◌, Bool, true, false, List, length, All, map, slice_get, Some}
-use Rattle.std.specs.List.{list_any}
+use Rattle.std.specs.Prelude.{◌≡◌, ℕ, ◌≤◌, ◌<◌, Bool, true, false, List, length, All, map}
+use Rattle.std.specs.List.{list_any, AllPairs}
 use Rattle.std.specs.Str.{bytes_eq}
 use Rattle.shape_exact.specs.Names.{is_name}
 use Rattle.shape_exact.specs.Days.{are_days}
@@ -44,8 +44,7 @@ block_names blocks = map (λ b. b.name) blocks
 
 -- no name stands in the list twice
 abbrev pub AreDistinct : List (List ℕ) → Type 0
-AreDistinct names =
-    (i j : ℕ) (n m : List ℕ) → i < j → slice_get names i ≡ Some n → slice_get names j ≡ Some m → bytes_eq n m ≡ false
+AreDistinct names = AllPairs (λ n m. bytes_eq n m ≡ false) names
 
 -- what every yard keeps: each part within the limits, and no name twice
 pub record IsYard (y : PlainYard) : Type 0 where
