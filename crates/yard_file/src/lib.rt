@@ -1,0 +1,12 @@
+//! Reads yard files.
+//!
+//! A yard file is a TOML document of at most 1,048,576 bytes: its version, its days, its plates and its blocks. Days are
+//! numbered from 0, lengths are in units of the plate's cells. What the bytes are read as is `yard_of` of `specs/Reads.antt`.
+#![tactic(auto)]
+
+mod document;
+mod fault;
+mod reader;
+
+pub use fault::YardFault;
+pub use reader::read_yard;
