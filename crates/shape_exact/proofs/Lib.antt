@@ -2,6 +2,7 @@ pub mod DayLaws
 pub mod EachLaws
 pub mod CellLaws
 pub mod TurnLaws
+pub mod FormLaws
 pub mod RingLaws
 pub mod Plane
 pub mod LinearLaws

@@ -21,7 +21,7 @@ pub record IsNormal (vs : List Point) : Type 0 where
   pub low_y : least (λ p. p.y) vs ≡ pos 0
 
 -- a quarter turn within a height
-abbrev rot : ℕ → Point → Point
+abbrev pub rot : ℕ → Point → Point
 rot h v = record { x = pos h -ℤ v.y; y = v.x }
 
 min_flip : (c a b : ℤ) → int_min (c -ℤ a) (c -ℤ b) ≡ (c -ℤ int_max a b)
@@ -60,7 +60,7 @@ side-turn a b h i j l =
     ∙ ap (λ s. (neg_ℤ (b.y -ℤ a.y) *ℤ (pos (2 * i + 1) -ℤ pos 2 *ℤ (a.x +ℤ pos 0))) -ℤ ((b.x -ℤ a.x) *ℤ s)) (part_h h j a.y l)
     ∙ turn_ring (b.y -ℤ a.y) (pos (2 * i + 1) -ℤ pos 2 *ℤ (a.x +ℤ pos 0)) (b.x -ℤ a.x) (pos (2 * j + 1) -ℤ pos 2 *ℤ (a.y +ℤ pos 0))
 
-abbrev rot_both : ℕ → Point × Point → Point × Point
+abbrev pub rot_both : ℕ → Point × Point → Point × Point
 rot_both h e = (rot h e.0, rot h e.1)
 
 zip-rot : (h : ℕ) (us vs : List Point) → zip (map (rot h) us) (map (rot h) vs) ≡ map (rot_both h) (zip us vs)
@@ -68,7 +68,7 @@ zip-rot h [] vs = refl
 zip-rot h (u ∷ us) [] = refl
 zip-rot h (u ∷ us) (v ∷ vs) = ap (λ es. (rot h u, rot h v) ∷ es) (zip-rot h us vs)
 
-edges-rot : (h : ℕ) (vs : List Point) → edges (map (rot h) vs) ≡ map (rot_both h) (edges vs)
+pub edges-rot : (h : ℕ) (vs : List Point) → edges (map (rot h) vs) ≡ map (rot_both h) (edges vs)
 edges-rot h [] = refl
 edges-rot h (v ∷ vs) =
     ap (λ ws. zip (rot h v ∷ map (rot h) vs) ws) (sym (map-append (rot h) vs (v ∷ []))) ∙ zip-rot h (v ∷ vs) (vs ++ v ∷ [])
@@ -150,24 +150,24 @@ not_below : (z : ℤ) → pos 0 ≤ℤ z → z ≡ pos (unsigned_abs z)
 not_below (pos n) h = refl
 not_below (negsuc n) h = absurd (omega (arith, ints))
 
-least_le_greatest : (f : Point → ℤ) (v : Point) (vs : List Point) → least f (v ∷ vs) ≤ℤ greatest f (v ∷ vs)
+pub least_le_greatest : (f : Point → ℤ) (v : Point) (vs : List Point) → least f (v ∷ vs) ≤ℤ greatest f (v ∷ vs)
 least_le_greatest f v vs =
     let a = (fold-int_min_bounds (f v) (map f vs) (least f (v ∷ vs)) refl).0 in
     let b = (fold-int_max_bounds (f v) (map f vs) (greatest f (v ∷ vs)) refl).0 in omega (arith, ints, a, b)
 
-high_y : (vs : List Point) → IsNormal vs → greatest (λ p. p.y) vs ≡ pos (reach_y vs)
+pub high_y : (vs : List Point) → IsNormal vs → greatest (λ p. p.y) vs ≡ pos (reach_y vs)
 high_y vs n = not_below (greatest (λ p. p.y) vs)
     (subst (λ z. z ≤ℤ greatest (λ p. p.y) vs) n.low_y
     (subst (λ ws. least (λ p. p.y) ws ≤ℤ greatest (λ p. p.y) ws) (sym n.is) (least_le_greatest (λ p. p.y) n.first n.others)))
 
-abbrev quarter : Point → Point
+abbrev pub quarter : Point → Point
 quarter v = record { x = neg_ℤ v.y; y = v.x }
 
 point_is : (a b c d : ℤ) → a ≡ c → b ≡ d → ◌≡◌ {A = Point} (record { x = a; y = b }) (record { x = c; y = d })
 point_is a b c d e f = ap (λ a. record { x = a; y = b }) e ∙ ap (λ b. record { x = c; y = b }) f
 
 -- one quarter turn of a normal shape
-turn_is : (vs : List Point) → IsNormal vs → shifted (map quarter vs) ≡ map (rot (reach_y vs)) vs
+pub turn_is : (vs : List Point) → IsNormal vs → shifted (map quarter vs) ≡ map (rot (reach_y vs)) vs
 turn_is vs n =
     let low : least (λ p. p.x) (map quarter vs) ≡ (pos 0 -ℤ pos (reach_y vs)) =
     ap (λ ws. least (λ p. p.x) (map quarter ws)) n.is
@@ -183,7 +183,7 @@ turn_is vs n =
     (ap (λ z. v.x -ℤ z) left ∙ (let e : (v.x -ℤ pos 0) ≡ v.x = omega (arith, ints) in e))) vs
 
 -- the turned shape is normal, as wide as the shape is high and as high as it is wide
-rot-normal : (vs : List Point) → IsNormal vs → IsNormal (map (rot (reach_y vs)) vs)
+pub rot-normal : (vs : List Point) → IsNormal vs → IsNormal (map (rot (reach_y vs)) vs)
 rot-normal vs n = record {
   first = rot (reach_y vs) n.first;
   others = map (rot (reach_y vs)) n.others;
