@@ -1,5 +1,5 @@
 -- Boxes of plans.
-use Rattle.std.specs.Prelude.{◌≡◌, ◌≢◌, ℕ, ◌+◌, ◌<◌, ◌≤◌, List, length, slice_get, Option, Some, None, [], ◌==◌, if◌then◌else◌, ◌⊎◌, All, Any, AllPairs, Contains, filter, nat_lt, ◌∷◌, ◌++◌}
+use Rattle.std.specs.Prelude.{◌≡◌, ◌≢◌, ℕ, ◌+◌, ◌<◌, ◌≤◌, List, slice_get, Option, Some, None, [], ◌==◌, if◌then◌else◌, ◌⊎◌, All, Any, filter, nat_lt, ◌∷◌, ◌++◌}
 use Rattle.plan_rule.specs.declared.literal.Literal.{Literal}
 use Rattle.plan_rule.specs.Choices.{Choices, blocks, count}
 use Rattle.plan_rule.specs.Plans.{code_of}
