@@ -5,3 +5,7 @@ pub mod EnergyLaws
 pub mod UniqueLaws
 pub mod BarLaws
 pub mod RegionLaws
+pub mod OrderLaws
+pub mod SearchLaws
+pub mod CountLaws
+pub mod ClashLaws

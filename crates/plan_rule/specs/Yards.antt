@@ -1,5 +1,5 @@
 -- What a yard leaves to choose.
-use Rattle.std.specs.Prelude.{ℕ, ◌+◌, ◌*◌, max, min, List, map, length, Option, Some, None, slice_get}
+use Rattle.std.specs.Prelude.{ℕ, ◌*◌, max, min, map, length, Option, Some, None, slice_get}
 use Rattle.std.specs.List.{range_with_len}
 use Rattle.std.specs.Option.{option_map_or}
 use Rattle.shape_exact.specs.Yards.{PlainYard}

@@ -3,6 +3,7 @@
 
 mod job;
 mod literal;
+mod order;
 mod plan;
 mod plan_box;
 

@@ -1,6 +1,11 @@
 //! Plans.
-ghost use Rattle.std.specs.Prelude.{◌≡◌};
+ghost use Rattle.std.specs.Prelude.{◌≡◌, IfOk, Some};
+ghost use Rattle.plan_rule.specs.Plans.{IsPlan, IsBest};
+ghost use Rattle.plan_rule.specs.Yards.{choices};
 
+use code_table::Codes;
+use shape_exact::NoMemory;
+use std::alloc::Global;
 use std::marker::Model;
 
 /// A plan: one code for each block, in file order. Contracts see it as the list of its codes.
@@ -18,6 +23,23 @@ impl Model for Plan {
 }
 
 impl Plan {
+    /// The plan of these codes, `list[i]` of block `i`.
+    pub fn new(alloc: Global, codes: &Codes, list: &[u32]) -> Result<Plan, NoMemory>
+        requires plan { IsPlan (choices codes.now) list.now }
+        ensures { IfOk result (λ plan. plan ≡ list.now) }
+    {
+        let list = list.to_vec(alloc)?;
+        Ok(Plan { list })
+    }
+
+    /// A second plan of the same codes.
+    pub fn copy(&self, alloc: Global) -> Result<Plan, NoMemory>
+        ensures { IfOk result (λ plan. plan ≡ self.now) }
+    {
+        let list = self.list.as_slice().to_vec(alloc)?;
+        Ok(Plan { list })
+    }
+
     /// The codes, `codes()[i]` of block `i`.
     pub fn codes(&self) -> &[u32]
         ensures { result.now ≡ self.now }
@@ -25,3 +47,10 @@ impl Plan {
         self.list.as_slice()
     }
 }
+
+/// There is at most one best plan.
+pub fn best_is_one(codes: &Codes, one: &Plan, two: &Plan)
+    requires one { IsBest (choices codes.now) (Some one.now) }
+    requires two { IsBest (choices codes.now) (Some two.now) }
+    ensures { one.now ≡ two.now }
+{}
