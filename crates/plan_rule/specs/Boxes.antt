@@ -20,6 +20,11 @@ abbrev pub IsAscending : List Literal → Type 0
 IsAscending box =
     (i j : ℕ) (l m : Literal) → i < j → slice_get box i ≡ Some l → slice_get box j ≡ Some m → l.block < m.block
 
+-- what every box keeps, whatever the yard: its literals ascend by block, and each has a code
+pub record AreLiterals (box : List Literal) : Type 0 where
+  pub ascending : IsAscending box
+  pub some : All (λ l. l.lo < l.hi) box
+
 -- a list of literals, one a block at most, in the order of the blocks
 pub record IsBox (c : Choices) (box : List Literal) : Type 0 where
   pub ascending : IsAscending box
