@@ -9,3 +9,4 @@ pub mod OrderLaws
 pub mod SearchLaws
 pub mod CountLaws
 pub mod ClashLaws
+pub mod ExistLaws

@@ -29,7 +29,7 @@ clash_covers c front t a b la lb l ne clash q f h =
     (subst (λ x. c.Clash a x b (code_of q b)) (h a la) (subst (λ y. c.Clash a (code_of front a) b y) (h b lb) clash)))
 
 -- a plan that extends a whole plan is that plan
-leaf : (c : Choices) (front q : List ℕ) → length front ≡ blocks c → IsPlan c q → Extends front q → q ≡ front
+pub leaf : (c : Choices) (front q : List ℕ) → length front ≡ blocks c → IsPlan c q → Extends front q → q ≡ front
 leaf c front q e p h = same_lists q front (p.one_each ∙ sym e)
     (λ k d l.
     let m : k < length front = let n = p.one_each in omega arith in
