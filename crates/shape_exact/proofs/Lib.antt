@@ -21,3 +21,4 @@ pub mod FlipLaws
 pub mod ZipLaws
 pub mod YardLaws
 pub mod ShapeLaws
+pub mod CornerLaws

@@ -6,6 +6,7 @@
 #![tactic(auto)]
 
 mod block;
+mod corner;
 mod day_list;
 mod memory;
 mod name;

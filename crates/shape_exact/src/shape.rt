@@ -1,8 +1,9 @@
 //! Footprints.
-ghost use Rattle.std.specs.Prelude.{◌≡◌};
-ghost use Rattle.shape_exact.specs.Shapes.{IsShape};
+ghost use Rattle.std.specs.Prelude.{◌≡◌, ◌≤◌, pos};
+ghost use Rattle.shape_exact.specs.Shapes.{IsShape, reach_x, reach_y};
 
 use crate::Point;
+use crate::corner::upper_corner;
 use arrayvec::ArrayVec;
 use std::marker::Model;
 
@@ -42,6 +43,17 @@ impl Shape {
         ensures shape { IsShape result.now }
     {
         self.points.as_slice()
+    }
+
+    /// The greatest x and the greatest y: how far the shape reaches to the right and upwards, at most 2000.
+    pub fn extent(&self) -> (i32, i32)
+        ensures x { result.0 ≡ pos (reach_x self.now) }
+        ensures y { result.1 ≡ pos (reach_y self.now) }
+        ensures some { (1 ≤ reach_x self.now) × (1 ≤ reach_y self.now) }
+        ensures few { (reach_x self.now ≤ 2000) × (reach_y self.now ≤ 2000) }
+    {
+        let corner = upper_corner(self.points());
+        (corner.x, corner.y)
     }
 }
 
