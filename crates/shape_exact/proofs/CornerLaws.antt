@@ -1,6 +1,6 @@
 -- Least and greatest coordinates.
-use Rattle.std.proofs.Common.{◌≡◌, ℕ, zero, suc, ◌+◌, ◌<◌, ◌≤◌, List, [], ◌∷◌, length, map, drop, get_or, refl, sym, ap, ◌∙◌, subst, arith, add-one}
-use Rattle.std.specs.Prelude.{ℤ, pos, ◌≤ℤ◌, ◌<ℤ◌, fold}
+use Rattle.std.proofs.Common.{◌≡◌, ℕ, zero, suc, ◌+◌, ◌<◌, ◌≤◌, List, [], ◌∷◌, length, map, drop, get_or, refl, arith, add-one}
+use Rattle.std.specs.Prelude.{ℤ, ◌≤ℤ◌, fold}
 use Rattle.std.specs.Int.{int_min, int_max}
 use Rattle.std.specs.List.{All}
 use Rattle.std.proofs.lemmas.Int.{ints, clamps}
@@ -27,6 +27,7 @@ fold_max_from {A} f a (x ∷ xs) =
   where
     left : (a b r : ℤ) → int_max a b ≤ℤ r → a ≤ℤ r
     left a b r h = omega (arith, ints, clamps)
+
     right : (a b r : ℤ) → int_max a b ≤ℤ r → b ≤ℤ r
     right a b r h = omega (arith, ints, clamps)
 
@@ -39,6 +40,7 @@ fold_min_from {A} f a (x ∷ xs) =
   where
     left : (a b r : ℤ) → r ≤ℤ int_min a b → r ≤ℤ a
     left a b r h = omega (arith, ints, clamps)
+
     right : (a b r : ℤ) → r ≤ℤ int_min a b → r ≤ℤ b
     right a b r h = omega (arith, ints, clamps)
 

@@ -1,5 +1,5 @@
 -- Facts on footprints.
-use Rattle.std.proofs.Common.{◌≡◌, ℕ, zero, suc, ◌<◌, ◌≤◌, List, [], ◌∷◌, ◌++◌, length, get_or, refl, ap, arith, subst}
+use Rattle.std.proofs.Common.{◌≡◌, zero, suc, ◌≤◌, List, [], ◌∷◌, ◌++◌, get_or, refl, ap, arith, subst}
 use Rattle.std.specs.Prelude.{ℤ, pos, negsuc, ◌≢◌, ◌≤ℤ◌, ◌<ℤ◌, unsigned_abs}
 use Rattle.std.specs.List.{All, Any, AllPairs, zip}
 use Rattle.std.proofs.lemmas.Int.{ints, by_lt_z}
@@ -87,7 +87,7 @@ reach_some : (f : Point → ℤ) → ((a b v : Point) → f a ≡ pos 0 → f b 
     → least f vs ≡ pos 0 → Any (λ e. Any (λ v. pos 0 <ℤ cross e.0 e.1 v) vs) (edges vs) → pos 0 <ℤ greatest f vs
 reach_some f flat vs low wide = by_lt_z (pos 0) (greatest f vs) (λ h. h)
     (λ h. absurd (no_side (λ v. f v ≡ pos 0) flat vs
-      (λ k d l. between (least f vs) (f (get_or vs k d)) (greatest f vs) low h (above_least f vs k d l) (below_greatest f vs k d l)) wide))
+    (λ k d l. between (least f vs) (f (get_or vs k d)) (greatest f vs) low h (above_least f vs k d l) (below_greatest f vs k d l)) wide))
   where
     between : (a b c : ℤ) → a ≡ pos 0 → c ≤ℤ pos 0 → a ≤ℤ b → b ≤ℤ c → b ≡ pos 0
     between a b c e h i j = omega (arith, ints)
@@ -104,9 +104,11 @@ reaches f vs h i = record { is = is (greatest f vs) h; some = some (greatest f v
     is : (z : ℤ) → pos 0 <ℤ z → z ≡ pos (unsigned_abs z)
     is (pos n) h = refl
     is (negsuc n) h = absurd (omega (arith, ints))
+
     some : (z : ℤ) → pos 0 <ℤ z → 1 ≤ unsigned_abs z
     some (pos n) h = omega (arith, ints)
     some (negsuc n) h = absurd (omega (arith, ints))
+
     few : (z : ℤ) → pos 0 <ℤ z → z ≤ℤ pos 2000 → unsigned_abs z ≤ 2000
     few (pos n) h i = omega (arith, ints)
     few (negsuc n) h i = absurd (omega (arith, ints))

@@ -7,5 +7,5 @@ use Rattle.shape_exact.proofs.corner.lower_corner.Given as goal
 abbrev pub invariant-loop-p : goal.invariant-loop-p
 invariant-loop-p l = record {
   x : fold int_min l.corner.x (map (λ p. p.x) (drop l.p-index l.points)) ≡ least (λ p. p.x) l.points;
-  y : fold int_min l.corner.y (map (λ p. p.y) (drop l.p-index l.points)) ≡ least (λ p. p.y) l.points
+  y : fold int_min l.corner.y (map (λ p. p.y) (drop l.p-index l.points)) ≡ least (λ p. p.y) l.points;
 }

@@ -1,4 +1,4 @@
-use Rattle.std.proofs.Common.{◌≡◌, ◌∙◌, ap, get_or, map, drop, ◌+◌, ℤ, pos, FitsSigned, w32, rules}
+use Rattle.std.proofs.Common.{◌∙◌, ap, get_or, map, drop, ◌+◌, pos, FitsSigned, w32, rules}
 use Rattle.std.specs.Prelude.{fold}
 use Rattle.std.specs.Int.{int_max}
 use Rattle.std.proofs.lemmas.Int.{to_z-of_z}
@@ -22,5 +22,5 @@ loop-p-preserved c =
       x = ap (λ a. fold int_max a (map (λ p. p.x) (drop (c.loop-p.p-index + 1) c.args.points.now))) left
           ∙ fold_next int_max (λ p. p.x) c.loop-p.corner.x c.args.points.now c.loop-p.p-index o c.loop-p-test.true ∙ c.loop-p.invariant.x;
       y = ap (λ a. fold int_max a (map (λ p. p.y) (drop (c.loop-p.p-index + 1) c.args.points.now))) down
-          ∙ fold_next int_max (λ p. p.y) c.loop-p.corner.y c.args.points.now c.loop-p.p-index o c.loop-p-test.true ∙ c.loop-p.invariant.y
+          ∙ fold_next int_max (λ p. p.y) c.loop-p.corner.y c.args.points.now c.loop-p.p-index o c.loop-p-test.true ∙ c.loop-p.invariant.y;
     })
