@@ -1,15 +1,14 @@
 -- A quarter turn keeps what every footprint keeps.
-use Rattle.std.proofs.Common.{◌≡◌, ℕ, zero, suc, ◌+◌, ◌≤◌, ◌<◌, List, [], ◌∷◌, length, get_or, map, refl, sym, ap, ◌∙◌, subst, arith, inl, inr}
-use Rattle.std.specs.Prelude.{ℤ, pos, negsuc, ◌≢◌, ◌+ℤ◌, ◌-ℤ◌, ◌*ℤ◌, ◌≤ℤ◌, ◌<ℤ◌, unsigned_abs, fold}
-use Rattle.std.specs.Int.{int_min, int_max}
+use Rattle.std.proofs.Common.{◌≡◌, ℕ, zero, suc, ◌≤◌, List, [], ◌∷◌, get_or, map, refl, sym, ap, ◌∙◌, subst, arith, inl, inr}
+use Rattle.std.specs.Prelude.{ℤ, pos, ◌≢◌, ◌-ℤ◌, ◌*ℤ◌, ◌≤ℤ◌, ◌<ℤ◌}
 use Rattle.std.specs.List.{All, Any, AllPairs}
 use Rattle.std.proofs.lemmas.Int.{ints, fold-int_min_bounds, fold-int_max_reached}
 use Rattle.std.proofs.lemmas.List.{length-map, get_or-map}
 use Rattle.std.proofs.lemmas.List.Elements.{All-nil, All-cons, All-head, All-tail, All-map, All-weaker, All-contains}
 use Rattle.shape_exact.specs.declared.point.Point.{Point}
-use Rattle.shape_exact.specs.Shapes.{IsShape, IsConvex, edges, cross, least, greatest, shifted, turned, reach_x, reach_y}
+use Rattle.shape_exact.specs.Shapes.{IsShape, edges, cross, least, greatest, turned, reach_y}
 use Rattle.shape_exact.proofs.RingLaws.{ring, linear}
-use Rattle.shape_exact.proofs.TurnLaws.{IsNormal, rot, rot_both, edges-rot, high_y, turn_is, rot-normal, quarter}
+use Rattle.shape_exact.proofs.TurnLaws.{IsNormal, rot, rot_both, edges-rot, high_y, turn_is, rot-normal}
 
 -- ---- lists
 pub Any-map : {X Y : Type 0} (P : Y → Type 0) (f : X → Y) (xs : List X) → Any (λ x. P (f x)) xs → Any P (map f xs)
@@ -123,3 +122,16 @@ shape-turned zero vs s = s
 shape-turned (suc q) vs s =
     let t = shape-turned q vs s in
     subst IsShape (sym (turn_is (turned q vs) (normal (turned q vs) t))) (shape-rot (turned q vs) t)
+
+-- points turned within a height are a footprint turned, where the height is the greatest y
+pub turned_points : (vs ws : List Point) (h : ℤ) → IsShape vs → h ≡ greatest (λ p. p.y) vs → ws ≡ map (λ v. record { x = h -ℤ v.y; y = v.x }) vs → (ws ≡ turned 1 vs) × IsShape ws
+turned_points vs ws h s top is =
+    let e : ws ≡ map (rot (reach_y vs)) vs = is ∙ ap (λ (k : ℤ). map (λ (v : Point). record { x = k -ℤ v.y; y = v.x }) vs) (top ∙ high_y vs (normal vs s)) in
+    (e ∙ sym (quarter_is vs s), subst IsShape (sym e) (shape-rot vs s))
+
+-- the height of a footprint is not below 0
+pub not_low : (vs : List Point) (h : ℤ) → IsShape vs → h ≡ greatest (λ p. p.y) vs → pos 0 ≤ℤ h
+not_low vs h s e = plain h (reach_y vs) (e ∙ high_y vs (normal vs s))
+  where
+    plain : (h : ℤ) (n : ℕ) → h ≡ pos n → pos 0 ≤ℤ h
+    plain h n e = omega (arith, ints)

@@ -1,14 +1,13 @@
 -- Edges of which each three have a point on their inner sides have one point on all their inner sides.
-use Rattle.std.proofs.Common.{◌≡◌, refl, sym, ap, ◌∙◌, subst, arith, ℕ, zero, suc, List, [], ◌∷◌}
-use Rattle.shape_exact.proofs.RingLaws.{ring, linear, mul-neg, neg-mul, mul-one, one-mul, mul-zero, zero-mul, not_negative_mul, positive_mul, positive_cancel, sum_positive}
+use Rattle.std.proofs.Common.{◌≡◌, sym, ap, ◌∙◌, subst, arith, List, [], ◌∷◌}
+use Rattle.shape_exact.proofs.RingLaws.{ring, linear, mul-one, one-mul, mul-zero, zero-mul, not_negative_mul, positive_mul}
 use Rattle.std.proofs.lemmas.Int.{ints}
-use lib.IntN.{ℤ, pos, negsuc, ◌+ℤ◌, ◌-ℤ◌, ◌*ℤ◌, neg_ℤ, *ℤ_comm}
+use lib.IntN.{ℤ, pos, negsuc, ◌+ℤ◌, ◌-ℤ◌, ◌*ℤ◌, neg_ℤ}
 use lib.Signed.{◌<ℤ◌, ◌≤ℤ◌}
-use Rattle.shape_exact.specs.declared.point.Point.{Point}
 use Rattle.shape_exact.proofs.Plane.{Edge, Mark, side, Every, mark_of}
 use Rattle.shape_exact.proofs.LinearLaws.{mix, four}
 use Rattle.shape_exact.proofs.NudgeLaws.{nudge}
-use Rattle.shape_exact.proofs.LineLaws.{Sign, sign, above, none, below, Place, level, Paired, Passed, line_helly, both, every_then}
+use Rattle.shape_exact.proofs.LineLaws.{Sign, sign, above, none, below, Place, level, Paired, line_helly, both, every_then}
 
 pub side-mix : (e : Edge) (p : ℤ) (u : Mark) (q : ℤ) (w : Mark) → side e (mix p u q w) ≡ p *ℤ side e u +ℤ q *ℤ side e w
 side-mix e p u q w = four p q (e.to.x -ℤ e.from.x) (e.to.y -ℤ e.from.y) e.from.x e.from.y u.x u.y u.n w.x w.y w.n

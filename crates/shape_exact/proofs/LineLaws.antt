@@ -1,6 +1,6 @@
 -- Tests on a line: where each two of them pass at some point, all pass at one.
-use Rattle.std.proofs.Common.{◌≡◌, refl, sym, ap, ◌∙◌, subst, arith, ℕ, zero, suc, List, [], ◌∷◌, ◌⊎◌, inl, inr, Bool, true, false}
-use Rattle.shape_exact.proofs.RingLaws.{ring, linear, mul-neg, neg-mul, mul-one, mul-zero, zero-mul, not_negative_mul, positive_mul, positive_cancel, sum_positive}
+use Rattle.std.proofs.Common.{◌≡◌, refl, sym, ap, ◌∙◌, subst, arith, zero, suc, List, [], ◌∷◌, Bool, true, false}
+use Rattle.shape_exact.proofs.RingLaws.{ring, linear, mul-neg, neg-mul, mul-one, mul-zero, zero-mul, not_negative_mul, positive_mul, positive_cancel}
 use lib.IntN.{ℤ, pos, negsuc, ◌+ℤ◌, ◌-ℤ◌, ◌*ℤ◌, neg_ℤ, *ℤ_comm}
 use lib.Signed.{◌<ℤ◌, ◌≤ℤ◌, lt_z}
 use Rattle.shape_exact.proofs.Plane.{Every}

@@ -1,10 +1,8 @@
 -- Sides are linear.
-use Rattle.std.proofs.Common.{◌≡◌, refl, sym, ap, arith, ℕ}
+use Rattle.std.proofs.Common.{◌≡◌, arith}
 use Rattle.shape_exact.proofs.RingLaws.{ring, linear}
-use lib.IntN.{ℤ, pos, negsuc, ◌+ℤ◌, ◌-ℤ◌, ◌*ℤ◌, neg_ℤ}
-use lib.Signed.{◌<ℤ◌, ◌≤ℤ◌}
-use Rattle.shape_exact.specs.declared.point.Point.{Point}
-use Rattle.shape_exact.proofs.Plane.{Mark, side}
+use lib.IntN.{ℤ, ◌+ℤ◌, ◌-ℤ◌, ◌*ℤ◌}
+use Rattle.shape_exact.proofs.Plane.{Mark}
 
 abbrev pub mix : ℤ → Mark → ℤ → Mark → Mark
 mix p u q w = record { x = p *ℤ u.x +ℤ q *ℤ w.x; y = p *ℤ u.y +ℤ q *ℤ w.y; n = p *ℤ u.n +ℤ q *ℤ w.n }

@@ -1,10 +1,10 @@
 -- A point that is strictly inside a closed line lies on the inner side of an edge for which no vertex does: there is none.
-use Rattle.std.proofs.Common.{◌≡◌, refl, sym, ap, subst, arith, ℕ, List, [], ◌∷◌}
+use Rattle.std.proofs.Common.{◌≡◌, sym, subst, arith, List, [], ◌∷◌}
 use Rattle.shape_exact.proofs.RingLaws.{ring, linear, mul-neg, not_negative_mul, positive_mul, positive_cancel, sum_positive}
-use lib.IntN.{ℤ, pos, negsuc, ◌+ℤ◌, ◌-ℤ◌, ◌*ℤ◌, neg_ℤ}
+use lib.IntN.{ℤ, pos, ◌+ℤ◌, ◌-ℤ◌, ◌*ℤ◌, neg_ℤ}
 use lib.Signed.{◌<ℤ◌, ◌≤ℤ◌}
 use Rattle.shape_exact.specs.declared.point.Point.{Point}
-use Rattle.shape_exact.proofs.Plane.{Edge, Mark, side, links, rim, Every, Inside, mark_of}
+use Rattle.shape_exact.proofs.Plane.{Edge, Mark, side, links, Every, Inside, mark_of}
 use Rattle.shape_exact.proofs.LinearLaws.{plucker}
 
 -- n times twice the area of z, a and b, in whole numbers

@@ -1,14 +1,14 @@
 -- Two closed convex lines, of which no edge separates the other, have a common point strictly inside.
-use Rattle.std.proofs.Common.{◌≡◌, refl, sym, ap, ◌∙◌, subst, arith, ℕ, zero, suc, List, [], ◌∷◌, ◌++◌, ◌⊎◌, inl, inr}
-use Rattle.shape_exact.proofs.RingLaws.{ring, linear, mul-neg, neg-mul, mul-one, one-mul, mul-zero, zero-mul, not_negative_mul, positive_mul, positive_cancel, sum_positive}
-use lib.IntN.{ℤ, pos, negsuc, ◌+ℤ◌, ◌-ℤ◌, ◌*ℤ◌, neg_ℤ, *ℤ_comm}
+use Rattle.std.proofs.Common.{◌≡◌, sym, ◌∙◌, subst, arith, List, [], ◌∷◌, ◌++◌, ◌⊎◌, inl, inr}
+use Rattle.shape_exact.proofs.RingLaws.{ring, linear, mul-one, one-mul, not_negative_mul}
+use lib.IntN.{ℤ, pos, ◌+ℤ◌, ◌-ℤ◌, ◌*ℤ◌}
 use lib.Signed.{◌<ℤ◌, ◌≤ℤ◌}
 use Rattle.shape_exact.specs.declared.point.Point.{Point}
 use Rattle.shape_exact.proofs.Plane.{Edge, Mark, side, Every, Some_of, mark_of, rim, Inside}
-use Rattle.shape_exact.proofs.LinearLaws.{mix, four}
+use Rattle.shape_exact.proofs.LinearLaws.{mix}
 use Rattle.shape_exact.proofs.NudgeLaws.{nudge}
 use Rattle.shape_exact.proofs.LineLaws.{both, every_then}
-use Rattle.shape_exact.proofs.HellyLaws.{side-mix, Common, Trio, plane_helly}
+use Rattle.shape_exact.proofs.HellyLaws.{side-mix, Trio, plane_helly}
 
 -- no vertex is on the outer side of an edge
 abbrev pub Convex : List Point → Type 0

@@ -1,8 +1,8 @@
 -- A number that is above 0 at each test, taken often enough, stays above 0 when another number is added.
-use Rattle.std.proofs.Common.{◌≡◌, refl, sym, ap, ◌∙◌, subst, arith, ℕ, zero, suc, List, [], ◌∷◌}
-use Rattle.shape_exact.proofs.RingLaws.{ring, linear, add-mul, mul-add, mul-one, mul-neg, neg-mul, not_negative_mul, positive_mul, positive_cancel, sum_positive}
+use Rattle.std.proofs.Common.{◌≡◌, ap, ◌∙◌, arith, suc, List, [], ◌∷◌}
+use Rattle.shape_exact.proofs.RingLaws.{linear, add-mul, mul-add, mul-one, mul-neg, not_negative_mul}
 use lib.IntN.{ℤ, pos, negsuc, ◌+ℤ◌, ◌-ℤ◌, ◌*ℤ◌, neg_ℤ}
-use lib.Signed.{◌<ℤ◌, ◌≤ℤ◌, lt_z}
+use lib.Signed.{◌<ℤ◌, ◌≤ℤ◌}
 use Rattle.shape_exact.proofs.Plane.{Every}
 
 -- a number that is not negative and that g lies above when negated

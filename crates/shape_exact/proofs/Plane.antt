@@ -1,5 +1,5 @@
 -- The words of the lemmas about closed lines: marks with a common denominator, edges, and the sides of an edge.
-use Rattle.std.specs.Prelude.{ℤ, pos, ◌+ℤ◌, ◌-ℤ◌, ◌*ℤ◌, ◌<ℤ◌, List, [], ◌∷◌, ◌⊎◌}
+use Rattle.std.specs.Prelude.{ℤ, pos, ◌-ℤ◌, ◌*ℤ◌, ◌<ℤ◌, List, [], ◌∷◌, ◌⊎◌}
 use Rattle.shape_exact.specs.declared.point.Point.{Point}
 
 -- the point (x / n, y / n), or the direction (x, y) where n is 0

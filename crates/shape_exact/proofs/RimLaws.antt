@@ -1,5 +1,5 @@
 -- The edges of a closed line, by number.
-use Rattle.std.proofs.Common.{◌≡◌, refl, sym, ap, ◌∙◌, subst, arith, ℕ, zero, suc, ◌+◌, ◌<◌, ◌≤◌, List, [], ◌∷◌, length, get_or, add-one}
+use Rattle.std.proofs.Common.{◌≡◌, refl, arith, ℕ, zero, suc, ◌+◌, ◌<◌, List, [], ◌∷◌, length, get_or, add-one}
 use Rattle.shape_exact.specs.declared.point.Point.{Point}
 use Rattle.shape_exact.proofs.Plane.{Edge, rim, links}
 

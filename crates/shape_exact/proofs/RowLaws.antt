@@ -1,11 +1,10 @@
 -- Whole numbers below and above a quotient.
-use Rattle.std.proofs.Common.{◌≡◌, refl, sym, ap, ◌∙◌, subst, arith, Bool, true, false, ℕ, zero, suc, ◌+◌, ◌*◌, ◌/◌, ◌≤◌, ◌<◌, ◌↔◌}
+use Rattle.std.proofs.Common.{◌≡◌, refl, arith, Bool, true, false, ℕ, ◌<◌, ◌↔◌}
 use Rattle.std.proofs.lemmas.Int.{ints}
 use Rattle.std.specs.Int.{int_div_euclid}
-use Rattle.shape_exact.proofs.RingLaws.{ring, linear, add-mul, mul-add, mul-one, one-mul, mul-neg, mul-zero, positive_mul, positive_cancel, not_negative_mul}
+use Rattle.shape_exact.proofs.RingLaws.{ring, linear, not_negative_mul}
 use lib.IntN.{ℤ, pos, negsuc, ◌+ℤ◌, ◌-ℤ◌, ◌*ℤ◌, neg_ℤ}
 use lib.Signed.{◌<ℤ◌, ◌≤ℤ◌, lt_z}
-use borrow.Author.Differences.{up, down, le_in}
 
 -- the quotient q is the greatest whole number with d q at most c
 pub floor_low : (d : ℕ) (c : ℤ) → 0 < d → (pos d *ℤ int_div_euclid c (pos d)) ≤ℤ c

@@ -1,12 +1,12 @@
 -- The sides of the sum of a fixed shape and a mirrored moving one.
 use Rattle.std.proofs.Common.{◌≡◌, refl, sym, ap, ◌∙◌, subst, arith, List, [], ◌∷◌, ◌⊎◌, inl, inr, map}
-use Rattle.shape_exact.proofs.RingLaws.{ring, linear, add-mul, mul-add, one-mul, mul-zero, zero-mul, positive_mul, positive_cancel}
-use lib.IntN.{ℤ, pos, negsuc, ◌+ℤ◌, ◌-ℤ◌, ◌*ℤ◌, neg_ℤ}
+use Rattle.shape_exact.proofs.RingLaws.{ring, linear, zero-mul, positive_mul, positive_cancel}
+use lib.IntN.{ℤ, pos, ◌+ℤ◌, ◌-ℤ◌, ◌*ℤ◌, neg_ℤ}
 use lib.Signed.{◌<ℤ◌, ◌≤ℤ◌}
 use Rattle.shape_exact.specs.declared.point.Point.{Point}
 use Rattle.shape_exact.proofs.Plane.{Edge, Mark, side, Every, Some_of, mark_of, rim, links, Inside}
 use Rattle.shape_exact.proofs.LoopLaws.{separated}
-use Rattle.shape_exact.proofs.LineLaws.{Sign, sign, above, none, below, both, every_then}
+use Rattle.shape_exact.proofs.LineLaws.{sign, both, every_then}
 use Rattle.shape_exact.proofs.HellyLaws.{squares_above}
 use Rattle.shape_exact.proofs.ThickLaws.{ends}
 use Rattle.shape_exact.proofs.MeetLaws.{Convex, Seen}

@@ -1,7 +1,7 @@
 -- A convex line with a vertex that is off the line of some edge has one off the line of each edge.
-use Rattle.std.proofs.Common.{◌≡◌, refl, sym, ap, ◌∙◌, subst, arith, List, [], ◌∷◌, ◌⊎◌, inl, inr}
-use Rattle.shape_exact.proofs.RingLaws.{ring, linear, one-mul, mul-zero, positive_mul}
-use lib.IntN.{ℤ, pos, negsuc, ◌+ℤ◌, ◌-ℤ◌, ◌*ℤ◌, neg_ℤ}
+use Rattle.std.proofs.Common.{◌≡◌, ◌∙◌, arith, List, [], ◌∷◌, ◌⊎◌, inl, inr}
+use Rattle.shape_exact.proofs.RingLaws.{ring, linear, mul-zero, positive_mul}
+use lib.IntN.{ℤ, pos, ◌+ℤ◌, ◌-ℤ◌, ◌*ℤ◌}
 use lib.Signed.{◌<ℤ◌, ◌≤ℤ◌}
 use Rattle.shape_exact.specs.declared.point.Point.{Point}
 use Rattle.shape_exact.proofs.Plane.{Edge, side, Every, Some_of, mark_of, rim, links}

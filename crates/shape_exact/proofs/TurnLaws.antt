@@ -1,5 +1,5 @@
 -- A quarter turn keeps the cells of a shape.
-use Rattle.std.proofs.Common.{◌≡◌, ℕ, zero, suc, ◌+◌, ◌-◌, ◌*◌, ◌≤◌, ◌<◌, List, [], ◌∷◌, ◌++◌, map, refl, sym, ap, ◌∙◌, subst, arith, Bool, true, false}
+use Rattle.std.proofs.Common.{◌≡◌, ℕ, zero, suc, ◌+◌, ◌-◌, ◌*◌, ◌<◌, List, [], ◌∷◌, ◌++◌, map, refl, sym, ap, ◌∙◌, subst, arith, Bool}
 use Rattle.std.specs.Prelude.{ℤ, pos, negsuc, neg_ℤ, ◌+ℤ◌, ◌-ℤ◌, ◌*ℤ◌, ◌≤ℤ◌, int_lt, unsigned_abs, fold, if◌then◌else◌, ◌&&◌}
 use Rattle.std.specs.Int.{int_min, int_max}
 use Rattle.std.specs.List.{list_all, zip}
@@ -8,7 +8,7 @@ use Rattle.std.proofs.Math.IntN.{zero-*ℤ, negsuc-*ℤ-pos, pos-*ℤ-pos, negsu
 use Rattle.std.proofs.lemmas.List.{map-append}
 use Rattle.shape_exact.specs.declared.point.Point.{Point}
 use Rattle.shape_exact.specs.Each.{sum_below}
-use Rattle.shape_exact.specs.Shapes.{Spot, edges, side_of, is_inside, least, greatest, shifted, turned, reach_x, reach_y, centre, origin, cells}
+use Rattle.shape_exact.specs.Shapes.{edges, side_of, is_inside, least, greatest, shifted, turned, reach_x, reach_y, centre, origin, cells}
 use Rattle.shape_exact.proofs.EachLaws.{sum-swap, sum-agree}
 use Rattle.shape_exact.proofs.CellLaws.{list_all-agree}
 

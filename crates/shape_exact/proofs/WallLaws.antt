@@ -1,8 +1,8 @@
 -- A point strictly inside a closed line lies between its vertices.
-use Rattle.std.proofs.Common.{◌≡◌, refl, sym, ap, ◌∙◌, subst, arith, List, [], ◌∷◌}
+use Rattle.std.proofs.Common.{◌≡◌, refl, sym, subst, arith, List, ◌∷◌}
 use Rattle.shape_exact.proofs.RingLaws.{ring, linear, one-mul}
 use Rattle.std.proofs.lemmas.Int.{ints}
-use lib.IntN.{ℤ, pos, negsuc, ◌+ℤ◌, ◌-ℤ◌, ◌*ℤ◌, neg_ℤ}
+use lib.IntN.{ℤ, pos, negsuc, ◌-ℤ◌, ◌*ℤ◌, neg_ℤ}
 use lib.Signed.{◌<ℤ◌, ◌≤ℤ◌, lt_z}
 use Rattle.std.proofs.Common.{Bool, true, false}
 use Rattle.shape_exact.specs.declared.point.Point.{Point}

@@ -13,6 +13,7 @@ mod name;
 mod plate;
 mod point;
 mod shape;
+mod turn;
 mod yard;
 
 pub use block::Block;

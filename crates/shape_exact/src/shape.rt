@@ -21,7 +21,7 @@ pub enum ShapeFault {
 /// A footprint: 3 to 16 vertices of a convex shape, counterclockwise, with least x and least y 0.
 #[derive(Clone, Drop)]
 pub struct Shape {
-    points: ArrayVec<Point, 16>,
+    pub(crate) points: ArrayVec<Point, 16>,
 }
 
 impl Model for Shape {
