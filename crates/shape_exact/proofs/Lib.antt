@@ -19,6 +19,8 @@ pub mod RowLaws
 pub mod WallLaws
 pub mod FlipLaws
 pub mod ZipLaws
+pub mod BridgeLaws
+pub mod ApartLaws
 pub mod YardLaws
 pub mod ShapeLaws
 pub mod CornerLaws

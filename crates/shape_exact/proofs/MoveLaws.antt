@@ -62,7 +62,7 @@ convex_shifted w ps c = subst (λ es. Every (λ e. Every (λ v. pos 0 ≤ℤ sid
     (every_then (λ e. Every (λ v. pos 0 ≤ℤ side e (mark_of v)) ps) (λ e. Every (λ v. pos 0 ≤ℤ side (shift_edge w e) (mark_of v)) (map (shift w) ps))
     (λ e h. every_map (shift w) (λ v. pos 0 ≤ℤ side (shift_edge w e) (mark_of v)) ps (every_then (λ v. pos 0 ≤ℤ side e (mark_of v)) (λ v. pos 0 ≤ℤ side (shift_edge w e) (mark_of (shift w v))) (λ v i. subst (λ (k : ℤ). pos 0 ≤ℤ k) (sym (vertex_shifted w e v)) i) ps h)) (rim ps) c))
 
-some_map : {A B : Type 0} (f : A → B) (P : B → Type 0) (xs : List A) → Some_of (λ a. P (f a)) xs → Some_of P (map f xs)
+pub some_map : {A B : Type 0} (f : A → B) (P : B → Type 0) (xs : List A) → Some_of (λ a. P (f a)) xs → Some_of P (map f xs)
 some_map f P [] h = h
 some_map f P (x ∷ xs) (inl h) = inl h
 some_map f P (x ∷ xs) (inr h) = inr (some_map f P xs h)

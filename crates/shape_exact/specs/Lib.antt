@@ -3,3 +3,4 @@ pub mod Names
 pub mod Days
 pub mod Shapes
 pub mod Yards
+pub mod Separation
