@@ -10,3 +10,5 @@ pub mod SearchLaws
 pub mod CountLaws
 pub mod ClashLaws
 pub mod ExistLaws
+pub mod JobLaws
+pub mod BehindLaws

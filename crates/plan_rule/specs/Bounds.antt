@@ -81,11 +81,14 @@ IsEnergy c first last box (Some r) =
     × ((IsCalm c box first last × (r ≡ k))
     ⊎ (IsTight c box first last × (last + 1 < c.days) × ((v : ℕ) × IsLeastRaise c box first last v × (r ≡ k + v))))
 
--- every plan in the box is the plan p, or lexicographically after it
+-- among n blocks, every plan in the box is the plan p, or lexicographically after it
+abbrev pub IsBehindOn : ℕ → List Literal → List ℕ → Type 0
+IsBehindOn n box p =
+    ((j : ℕ) × (j < n) × ((b : ℕ) → b < j → Fixes box b (code_of p b)) × Any (λ l. (l.block ≡ j) × (code_of p j < l.lo)) box)
+    ⊎ ((b : ℕ) → b < n → Fixes box b (code_of p b))
+
 abbrev pub IsBehind : Choices → List Literal → List ℕ → Type 0
-IsBehind c box p =
-    ((j : ℕ) × (j < blocks c) × ((b : ℕ) → b < j → Fixes box b (code_of p b)) × Any (λ l. (l.block ≡ j) × (code_of p j < l.lo)) box)
-    ⊎ ((b : ℕ) → b < blocks c → Fixes box b (code_of p b))
+IsBehind c box p = IsBehindOn (blocks c) box p
 
 -- the bound shows that no feasible plan of the box is before the plan, or that there is none
 abbrev pub Refutes : Choices → Option (List ℕ) → List Literal → Option ℕ → Type 0

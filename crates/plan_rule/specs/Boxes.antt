@@ -25,6 +25,10 @@ pub record AreLiterals (box : List Literal) : Type 0 where
   pub ascending : IsAscending box
   pub some : All (λ l. l.lo < l.hi) box
 
+-- the blocks of the literals are among the first n
+abbrev pub AreAmong : ℕ → List Literal → Type 0
+AreAmong n box = All (λ l. l.block < n) box
+
 -- a list of literals, one a block at most, in the order of the blocks
 pub record IsBox (c : Choices) (box : List Literal) : Type 0 where
   pub ascending : IsAscending box

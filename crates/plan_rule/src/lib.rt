@@ -7,7 +7,7 @@ mod order;
 mod plan;
 mod plan_box;
 
-pub use job::Job;
+pub use job::{Job, halves};
 pub use literal::Literal;
 pub use plan::Plan;
 pub use plan_box::PlanBox;

@@ -1,8 +1,9 @@
 //! Boxes of plans.
-ghost use Rattle.std.specs.Prelude.{◌≡◌, IfOk};
-ghost use Rattle.plan_rule.specs.Boxes.{AreLiterals};
+ghost use Rattle.std.specs.Prelude.{◌≡◌, ◌↔◌, IsTrue, IfOk, length};
+ghost use Rattle.plan_rule.specs.Boxes.{AreLiterals, AreAmong, Holds};
+ghost use Rattle.plan_rule.specs.Bounds.{IsBehindOn};
 
-use crate::Literal;
+use crate::{Literal, Plan};
 use shape_exact::NoMemory;
 use std::alloc::Global;
 use std::marker::Model;
@@ -50,5 +51,38 @@ impl PlanBox {
         ensures ordered { AreLiterals result.now }
     {
         self.list.as_slice()
+    }
+
+    /// Whether the plan lies in the box: each literal's range has the plan's code of that block.
+    pub fn holds(&self, plan: &Plan) -> bool
+        requires { AreAmong (length plan.now) self.now }
+        ensures { IsTrue result ↔ Holds self.now plan.now }
+    {
+        for l in self.literals() {
+            if !l.has(plan.codes()[usize::from(l.block)]) {
+                return false;
+            }
+        }
+        true
+    }
+
+    /// Whether every plan in the box is this plan or, as a list of codes, after it.
+    pub fn behind(&self, plan: &Plan) -> bool
+        requires { AreAmong (length plan.now) self.now }
+        ensures { IsTrue result ↔ IsBehindOn (length plan.now) self.now plan.now }
+    {
+        let codes = plan.codes();
+        for (i, l) in self.literals().iter().enumerate() {
+            if usize::from(l.block) != i {
+                return false;
+            }
+            if codes[i] < l.lo {
+                return true;
+            }
+            if !l.is_exact(l.block, codes[i]) {
+                return false;
+            }
+        }
+        self.literals().len() == codes.len()
     }
 }
