@@ -1,1 +1,3 @@
 pub mod Calendars
+pub mod Counts
+pub mod Faults
