@@ -1,0 +1,9 @@
+pub mod AppendedLaws
+pub mod CiteLaws
+pub mod ListLaws
+pub mod LiteralLaws
+pub mod LogLaws
+pub mod RecordLaws
+pub mod SpelledLaws
+pub mod WholeLaws
+pub mod WrittenLaws

@@ -1,0 +1,5 @@
+pub mod Citations
+pub mod Steps
+pub mod Logs
+pub mod Spelling
+pub mod Reading
