@@ -139,3 +139,10 @@ shared (v ∷ vs) (w ∷ ws) p q s t f g =
 -- shapes with a spot in common are not apart
 pub shared_not_apart : (a b : List Point) (at_a at_b : Point) → Shared a at_a b at_b → AreApart a at_a b at_b → ⊥
 shared_not_apart a b p q m h = h m.0 m.1 m.2 m.3
+
+-- ---- the same of equal shapes and shifts
+pub edge_as : (a b c d : List Point) (v w : Point) → a ≡ c → b ≡ d → v ≡ w → HasSeparatingEdge a b v → HasSeparatingEdge c d w
+edge_as a b c d v w e f g h = subst (λ w. HasSeparatingEdge c d w) g (subst (λ d. HasSeparatingEdge c d v) f (subst (λ c. HasSeparatingEdge c b v) e h))
+
+pub sees_as : (a b c d : List Point) (v w : Point) → a ≡ c → b ≡ d → v ≡ w → EachEdgeSees a b v → EachEdgeSees c d w
+sees_as a b c d v w e f g h = subst (λ w. EachEdgeSees c d w) g (subst (λ d. EachEdgeSees c d v) f (subst (λ c. EachEdgeSees c b v) e h))

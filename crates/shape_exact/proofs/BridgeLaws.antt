@@ -3,6 +3,7 @@ use Rattle.std.proofs.Common.{◌≡◌, refl, sym, ap, ◌∙◌, subst, arith,
 use Rattle.std.specs.List.{All, Any, AllPairs, zip}
 use Rattle.std.proofs.lemmas.List.Elements.{All-head, All-tail}
 use Rattle.std.proofs.lemmas.Bool.{cases_lt}
+use Rattle.std.proofs.lemmas.List.{get_or-map, length-map}
 use Rattle.shape_exact.specs.declared.point.Point.{Point}
 use Rattle.shape_exact.specs.Shapes.{IsShape, edges, cross}
 use Rattle.shape_exact.proofs.RingLaws.{ring, linear, one-mul, positive_mul}
@@ -113,3 +114,30 @@ thick_from vs s =
     (λ e a. some_then (λ v. pos 0 <ℤ cross e.from e.to v) (λ v. pos 0 <ℤ side e (mark_of v))
     (λ v b. subst (λ (n : ℤ). pos 0 <ℤ n) (sym (side-cross e v)) b) vs (some_from_Any (λ v. pos 0 <ℤ cross e.from e.to v) vs a))
     (rim vs) (some_edge (λ e. Any (λ v. pos 0 <ℤ cross e.0 e.1 v) vs) vs s.wide))
+
+-- ---- an edge by its number
+edge_at : (vs : List Point) (k : ℕ) (d : Point × Point) → k < length vs → get_or (edges vs) k d ≡ pair (get_or (rim vs) k (record { from = d.0; to = d.1 }))
+edge_at vs k d l =
+    ap (λ es. get_or es k d) (edges-rim vs) ∙ get_or-map pair (rim vs) k (record { from = d.0; to = d.1 }) d (omega (arith, length-rim vs))
+
+both_ends : (a b c d : Point) → a ≡ c → b ≡ d → ◌≡◌ {A = Point × Point} (a, b) (c, d)
+both_ends a b c d e f = ap (λ (v : Point). (v, b)) e ∙ ap (λ (v : Point). (c, v)) f
+
+-- edge k goes from vertex k to the next
+pub edge_inner : (vs : List Point) (k : ℕ) (d : Point × Point) (o : Point) → k + 1 < length vs → get_or (edges vs) k d ≡ (get_or vs k d.0, get_or vs (k + 1) o)
+edge_inner vs k d o l =
+    let e : Edge = record { from = d.0; to = d.1 } in
+    edge_at vs k d (omega arith)
+    ∙ both_ends (get_or (rim vs) k e).from (get_or (rim vs) k e).to (get_or vs k d.0) (get_or vs (k + 1) o)
+    (ap (λ (f : Edge). f.from) (rim_inner vs k e d.0 l)) (ap (λ (f : Edge). f.to) (rim_inner vs k e o l))
+
+-- and the last to the first
+pub edge_closing : (vs : List Point) (k : ℕ) (d : Point × Point) (o : Point) → k + 1 ≡ length vs → get_or (edges vs) k d ≡ (get_or vs k d.0, get_or vs 0 o)
+edge_closing vs k d o l =
+    let e : Edge = record { from = d.0; to = d.1 } in
+    edge_at vs k d (omega arith)
+    ∙ both_ends (get_or (rim vs) k e).from (get_or (rim vs) k e).to (get_or vs k d.0) (get_or vs 0 o)
+    (ap (λ (f : Edge). f.from) (rim_closing vs k e d.0 l)) (ap (λ (f : Edge). f.to) (rim_closing vs k e o l))
+
+pub length-edges : (vs : List Point) → length (edges vs) ≡ length vs
+length-edges vs = ap length (edges-rim vs) ∙ length-map (rim vs) pair ∙ length-rim vs

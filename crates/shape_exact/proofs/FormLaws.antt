@@ -1,12 +1,13 @@
 -- A quarter turn keeps what every footprint keeps.
 use Rattle.std.proofs.Common.{◌≡◌, ℕ, zero, suc, ◌≤◌, List, [], ◌∷◌, get_or, map, refl, sym, ap, ◌∙◌, subst, arith, inl, inr}
-use Rattle.std.specs.Prelude.{ℤ, pos, ◌≢◌, ◌-ℤ◌, ◌*ℤ◌, ◌≤ℤ◌, ◌<ℤ◌}
+use Rattle.std.specs.Prelude.{unsigned_abs, ℤ, pos, ◌≢◌, ◌-ℤ◌, ◌*ℤ◌, ◌≤ℤ◌, ◌<ℤ◌}
 use Rattle.std.specs.List.{All, Any, AllPairs}
 use Rattle.std.proofs.lemmas.Int.{ints, fold-int_min_bounds, fold-int_max_reached}
 use Rattle.std.proofs.lemmas.List.{length-map, get_or-map}
 use Rattle.std.proofs.lemmas.List.Elements.{All-nil, All-cons, All-head, All-tail, All-map, All-weaker, All-contains}
 use Rattle.shape_exact.specs.declared.point.Point.{Point}
 use Rattle.shape_exact.specs.Shapes.{IsShape, edges, cross, least, greatest, turned, reach_y}
+use Rattle.shape_exact.specs.Separation.{IsWithin}
 use Rattle.shape_exact.proofs.RingLaws.{ring, linear}
 use Rattle.shape_exact.proofs.TurnLaws.{IsNormal, rot, rot_both, edges-rot, high_y, turn_is, rot-normal}
 
@@ -52,6 +53,17 @@ not_left vs s = subst (λ (k : ℤ). All (λ v. k ≤ℤ v.x) vs) s.low_x (least
 
 pub not_under : (vs : List Point) → IsShape vs → All (λ v. pos 0 ≤ℤ v.y) vs
 not_under vs s = subst (λ (k : ℤ). All (λ v. k ≤ℤ v.y) vs) s.low_y (least_below (λ p. p.y) vs)
+
+-- its coordinates are from 0 to 2000
+pub within : (vs : List Point) → IsShape vs → All (IsWithin 2000) vs
+within vs s = λ k d l.
+    let x = not_left vs s k d l in
+    let y = not_under vs s k d l in
+    let r = s.reach k d l in
+    (plain (get_or vs k d).x x r.0, plain (get_or vs k d).y y r.1)
+  where
+    plain : (a : ℤ) → pos 0 ≤ℤ a → a ≤ℤ pos 2000 → unsigned_abs a ≤ 2000
+    plain a h l = omega (arith, ints)
 
 -- a footprint as the laws of cells take it
 pub normal : (vs : List Point) → IsShape vs → IsNormal vs
@@ -99,7 +111,7 @@ shape-rot vs s =
       low_x = m.low_x;
       low_y = m.low_y;
       reach = All-map (λ v. (v.x ≤ℤ pos 2000) × (v.y ≤ℤ pos 2000)) (rot h) vs
-          (λ k d l. let r = s.reach k d l in let u = not_under vs s k d l in (within (get_or vs k d).y h (reach_y_limit vs s) u, r.0));
+          (λ k d l. let r = s.reach k d l in let u = not_under vs s k d l in (under (get_or vs k d).y h (reach_y_limit vs s) u, r.0));
       distinct = distinct-map (rot h) vs (rot_one h) m.first s.distinct;
       convex = subst (λ es. All outer es) (sym (edges-rot h vs)) (All-map outer (rot_both h) (edges vs)
           (All-weaker inner (λ e. outer (rot_both h e)) (λ e a. All-map (λ v. pos 0 ≤ℤ cross (rot h e.0) (rot h e.1) v) (rot h) vs
@@ -109,8 +121,8 @@ shape-rot vs s =
           (Any-weaker (λ v. pos 0 <ℤ cross e.0 e.1 v) (λ v. pos 0 <ℤ cross (rot h e.0) (rot h e.1) (rot h v)) (λ v k. subst (λ (c : ℤ). pos 0 <ℤ c) (sym (cross-rot h e.0 e.1 v)) k) vs a)) (edges vs) s.wide));
     }
   where
-    within : (y : ℤ) (h : ℕ) → h ≤ 2000 → pos 0 ≤ℤ y → (pos h -ℤ y) ≤ℤ pos 2000
-    within y h l u = omega (arith, ints)
+    under : (y : ℤ) (h : ℕ) → h ≤ 2000 → pos 0 ≤ℤ y → (pos h -ℤ y) ≤ℤ pos 2000
+    under y h l u = omega (arith, ints)
 
 -- one quarter turn is that
 pub quarter_is : (vs : List Point) → IsShape vs → turned 1 vs ≡ map (rot (reach_y vs)) vs
