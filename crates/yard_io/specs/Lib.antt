@@ -1,0 +1,4 @@
+pub mod Desk
+pub mod Quiet
+pub mod QuietDesk
+pub mod RealDesk
