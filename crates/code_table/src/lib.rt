@@ -5,7 +5,11 @@
 #![tactic(auto)]
 
 mod codes;
+mod count;
+mod grid;
 mod placement;
+mod stand;
 
 pub use codes::Codes;
+pub use count::placement_count;
 pub use placement::Placement;
