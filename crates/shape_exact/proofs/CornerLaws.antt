@@ -1,6 +1,6 @@
 -- Least and greatest coordinates.
 use Rattle.std.proofs.Common.{◌≡◌, ℕ, zero, suc, ◌+◌, ◌<◌, ◌≤◌, List, [], ◌∷◌, length, map, drop, get_or, refl, arith, add-one}
-use Rattle.std.specs.Prelude.{ℤ, ◌≤ℤ◌, fold}
+use Rattle.std.specs.Prelude.{ℤ, ◌≤ℤ◌, fold, negsuc, unsigned_abs}
 use Rattle.std.specs.Int.{int_min, int_max}
 use Rattle.std.specs.List.{All}
 use Rattle.std.proofs.lemmas.Int.{ints, clamps}
@@ -77,3 +77,15 @@ greatest_within f k (v ∷ vs) n h = fold_max_within f k (f v) vs (All-head (λ 
 pub least_within : (f : Point → ℤ) (k : ℤ) (vs : List Point) → 1 ≤ length vs → All (λ v. k ≤ℤ f v) vs → k ≤ℤ least f vs
 least_within f k [] n h = absurd (omega arith)
 least_within f k (v ∷ vs) n h = fold_min_within f k (f v) vs (All-head (λ w. k ≤ℤ f w) v vs h) (All-tail (λ w. k ≤ℤ f w) v vs h)
+
+-- where all coordinates are near 0, the least one is
+pub least_near : (f : Point → ℤ) (vs : List Point) → 1 ≤ length vs → All (λ v. unsigned_abs (f v) ≤ 1000) vs → unsigned_abs (least f vs) ≤ 1000
+least_near f [] n h = absurd (omega arith)
+least_near f (v ∷ vs) n h =
+    at (least f (v ∷ vs)) (f v) (least_within f (negsuc 999) (v ∷ vs) n (λ k d l. low (f (get_or (v ∷ vs) k d)) (h k d l)))
+    (above_least f (v ∷ vs) 0 v n) (h 0 v n)
+  where
+    low : (z : ℤ) → unsigned_abs z ≤ 1000 → negsuc 999 ≤ℤ z
+    low z h = omega (arith, ints)
+    at : (a b : ℤ) → negsuc 999 ≤ℤ a → a ≤ℤ b → unsigned_abs b ≤ 1000 → unsigned_abs a ≤ 1000
+    at a b h i j = omega (arith, ints)

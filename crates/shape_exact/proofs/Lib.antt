@@ -24,3 +24,6 @@ pub mod ApartLaws
 pub mod YardLaws
 pub mod ShapeLaws
 pub mod CornerLaws
+pub mod ReadLaws
+pub mod OutlineLaws
+pub mod FaultLaws

@@ -4,3 +4,4 @@ pub mod Days
 pub mod Shapes
 pub mod Yards
 pub mod Separation
+pub mod Reading

@@ -13,6 +13,7 @@ mod name;
 mod plate;
 mod point;
 mod separation;
+mod read;
 mod shape;
 mod turn;
 mod yard;

@@ -1,0 +1,121 @@
+-- The first of several, and the faults of points in their order.
+use Rattle.std.proofs.Common.{◌≡◌, ℕ, zero, suc, ◌+◌, ◌<◌, ◌≤◌, Option, Some, None, refl, sym, ap, ◌∙◌, subst, arith, inl, inr, ◌⊎◌, Bool, true, false, add-one, List, [], ◌∷◌, ◌++◌, length, length-append, get_or}
+use Rattle.std.specs.Prelude.{nat_lt, ◌&&◌, if◌then◌else◌, ℤ, ◌-ℤ◌, unsigned_abs}
+use Rattle.std.specs.List.{zip}
+use Rattle.std.proofs.lemmas.Int.{ints}
+use Rattle.std.proofs.lemmas.List.{get_or_append_left, get_or_push}
+use Rattle.shape_exact.specs.Shapes.{origin}
+use Rattle.std.specs.Option.{option_or, option_map}
+use Rattle.std.proofs.lemmas.Bool.Decides.{nat_tests}
+use Rattle.shape_exact.specs.declared.point.Point.{Point}
+use Rattle.std.proofs.lemmas.Bool.{cases_lt}
+use Rattle.std.proofs.lemmas.Option.{none-some}
+use Rattle.shape_exact.specs.Reading.{first_below, where_so, vertex, is_near, is_same, first_equal_to, sign, cross_at, is_other, other_of_edge, edge, AreNear}
+
+-- ---- the first of several
+-- none of the numbers so far, nor this one
+pub first_more : {A : Type 0} (i : ℕ) (f : ℕ → Option A) → first_below i f ≡ None → f i ≡ None → first_below (i + 1) f ≡ None
+first_more i f h k = rw (add-one, h) k
+
+-- none of the numbers so far, but this one
+pub first_is : {A : Type 0} (n i : ℕ) (f : ℕ → Option A) (x : A) → first_below i f ≡ None → i < n → f i ≡ Some x → first_below n f ≡ Some x
+first_is zero i f x h l e = absurd (omega arith)
+first_is (suc n) i f x h l e = elim (cases_lt i n) [
+  | inl below ↦ rw (first_is n i f x h below e) refl
+  | inr last ↦
+      let same : i ≡ n = omega arith in
+      rw (subst (λ k. first_below k f ≡ None) same h) (subst (λ k. f k ≡ Some x) same e)
+]
+
+pub none_below : {A : Type 0} (n : ℕ) (f : ℕ → Option A) → ((i : ℕ) → i < n → f i ≡ None) → first_below n f ≡ None
+none_below zero f h = refl
+none_below (suc n) f h = rw (none_below n f (λ i l. h i (omega arith))) (h n (omega arith))
+
+pub none_at : {A : Type 0} (n : ℕ) (f : ℕ → Option A) → first_below n f ≡ None → (i : ℕ) → i < n → f i ≡ None
+none_at {A} zero f e i l = absurd (omega arith)
+none_at {A} (suc n) f e i l = elim (cases_lt i n) [
+  | inl below ↦ none_at n f (left (first_below n f) (f n) e) i below
+  | inr last ↦ let same : n ≡ i = omega arith in subst (λ k. f k ≡ None) same (right (first_below n f) (f n) e)
+]
+  where
+    left : (o p : Option A) → option_or o p ≡ None → o ≡ None
+    left None p e = refl
+    left (Some x) p e = e
+    right : (o p : Option A) → option_or o p ≡ None → p ≡ None
+    right None p e = e
+    right (Some x) p e = absurd (none-some x (sym e))
+
+pub some_at : {A : Type 0} (n : ℕ) (f : ℕ → Option A) (x : A) → first_below n f ≡ Some x → (i : ℕ) × (i < n) × (f i ≡ Some x)
+some_at {A} zero f x e = absurd (none-some x e)
+some_at {A} (suc n) f x e = by (first_below n f) refl (λ h. some_at n f x h)
+  where
+    by : (o : Option A) → first_below n f ≡ o → (first_below n f ≡ Some x → (i : ℕ) × (i < n) × (f i ≡ Some x)) → (i : ℕ) × (i < suc n) × (f i ≡ Some x)
+    by None h ih = (n, omega arith, subst (λ o. option_or o (f n) ≡ Some x) h e)
+    by (Some y) h ih = let (i, l, at) = ih (h ∙ subst (λ o. option_or o (f n) ≡ Some x) h e) in (i, omega arith, at)
+
+-- ---- what each search looks for
+abbrev pub far_at : List Point → ℕ → Option ℕ
+far_at vs i = if is_near (vertex vs i) then None else Some i
+
+abbrev pub equal_at : List Point → ℕ → ℕ → Option ℕ
+equal_at vs i j = where_so (nat_lt i j && is_same (vertex vs i) (vertex vs j)) j
+
+abbrev pub pair_at : List Point → ℕ → Option (ℕ × ℕ)
+pair_at vs i = option_map (λ j. (i, j)) (first_equal_to vs i)
+
+abbrev pub sign_at : List Point → ℕ → ℕ → Option Bool
+sign_at vs e v = sign (cross_at vs e v)
+
+abbrev pub other_at : Bool → List Point → ℕ → ℕ → Option ℕ
+other_at left vs e v = where_so (is_other left (cross_at vs e v)) v
+
+abbrev pub sides_at : Bool → List Point → ℕ → Option (ℕ × ℕ)
+sides_at left vs e = option_map (λ v. (e, v)) (other_of_edge left vs e)
+
+pub not_after : (vs : List Point) (i j : ℕ) → j ≤ i → equal_at vs i j ≡ None
+not_after vs i j l = let no : nat_lt i j ≡ false = grind (arith, nat_tests) in rw no refl
+
+pub unlike : (vs : List Point) (i j : ℕ) → is_same (vertex vs i) (vertex vs j) ≡ false → equal_at vs i j ≡ None
+unlike vs i j h = by (nat_lt i j)
+  where
+    by : (b : Bool) → where_so (b && is_same (vertex vs i) (vertex vs j)) j ≡ None
+    by true = rw h refl
+    by false = refl
+
+pub alike : (vs : List Point) (i j : ℕ) → i < j → is_same (vertex vs i) (vertex vs j) ≡ true → equal_at vs i j ≡ Some j
+alike vs i j l h = let yes : nat_lt i j ≡ true = grind (arith, nat_tests) in rw (yes, h) refl
+
+-- ---- bounds
+pub near_x : (p : Point) → is_near p ≡ true → unsigned_abs p.x ≤ 1000
+near_x p h = grind (arith, nat_tests)
+
+pub near_y : (p : Point) → is_near p ≡ true → unsigned_abs p.y ≤ 1000
+near_y p h = grind (arith, nat_tests)
+
+-- ---- edges by number
+get_zip : {A : Type 0} (us vs : List A) (k : ℕ) (c d : A) → k < length us → k < length vs → get_or (zip us vs) k (c, d) ≡ (get_or us k c, get_or vs k d)
+get_zip [] vs k c d l m = absurd (omega arith)
+get_zip (u ∷ us) [] k c d l m = absurd (omega arith)
+get_zip (u ∷ us) (v ∷ vs) zero c d l m = refl
+get_zip (u ∷ us) (v ∷ vs) (suc k) c d l m = get_zip us vs k c d (omega arith) (omega arith)
+
+-- an edge before the last
+pub edge_inner : (vs : List Point) (e : ℕ) → e + 1 < length vs → edge vs e ≡ (vertex vs e, vertex vs (e + 1))
+edge_inner [] e l = absurd (omega arith)
+edge_inner (v ∷ vs) e l =
+    get_zip (v ∷ vs) (vs ++ v ∷ []) e origin origin (omega arith) (simp length-append (omega arith))
+    ∙ ap (λ (w : Point). (get_or (v ∷ vs) e origin, w)) (get_or_append_left vs (v ∷ []) origin e (omega arith) ∙ rw add-one refl)
+
+-- the last edge
+pub edge_closing : (vs : List Point) (e : ℕ) → e + 1 ≡ length vs → edge vs e ≡ (vertex vs e, vertex vs 0)
+edge_closing [] e l = absurd (omega arith)
+edge_closing (v ∷ vs) e l =
+    get_zip (v ∷ vs) (vs ++ v ∷ []) e origin origin (omega arith) (simp length-append (omega arith))
+    ∙ ap (λ (w : Point). (get_or (v ∷ vs) e origin, w)) (get_or_push vs v origin e (omega arith))
+
+-- the end of an edge is a vertex
+pub end_near : (vs : List Point) (e : ℕ) (p : Point) → AreNear vs → e < length vs → edge vs e ≡ (vertex vs e, p) → is_near p ≡ true
+end_near vs e p near l at = elim (cases_lt (e + 1) (length vs)) [
+  | inl inner ↦ subst (λ (q : Point). is_near q ≡ true) (ap (λ (d : Point × Point). d.1) (sym (edge_inner vs e inner) ∙ at)) (near (e + 1) origin inner)
+  | inr last ↦ subst (λ (q : Point). is_near q ≡ true) (ap (λ (d : Point × Point). d.1) (sym (edge_closing vs e (omega arith)) ∙ at)) (near 0 origin (omega arith))
+]
