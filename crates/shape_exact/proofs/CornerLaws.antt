@@ -87,5 +87,6 @@ least_near f (v ∷ vs) n h =
   where
     low : (z : ℤ) → unsigned_abs z ≤ 1000 → negsuc 999 ≤ℤ z
     low z h = omega (arith, ints)
+
     at : (a b : ℤ) → negsuc 999 ≤ℤ a → a ≤ℤ b → unsigned_abs b ≤ 1000 → unsigned_abs a ≤ 1000
     at a b h i j = omega (arith, ints)

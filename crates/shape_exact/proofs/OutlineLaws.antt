@@ -94,7 +94,7 @@ near-backwards vs h =
     let n = length-backwards vs in
     All-from_get_or (λ p. is_near p ≡ true) (backwards vs) origin
     (λ i l. subst (λ (p : Point). is_near p ≡ true) (sym (vertex-backwards vs i (omega arith)))
-      (h (back (length vs) i) origin (back_below (length vs) i (omega arith))))
+    (h (back (length vs) i) origin (back_below (length vs) i (omega arith))))
 
 edge-backwards : (vs : List Point) (e : ℕ) → e < length vs
     → edge (backwards vs) e ≡ ((edge vs (length vs - 1 - e)).1, (edge vs (length vs - 1 - e)).0)
@@ -131,23 +131,28 @@ outline-backwards vs some few x y once right (e, v, l, m, strict) =
       near_x = λ i k. subst (λ (p : Point). unsigned_abs p.x ≤ 1000) (sym (vertex-backwards vs i (omega arith))) (x (back (length vs) i) (back_below (length vs) i (omega arith)));
       near_y = λ i k. subst (λ (p : Point). unsigned_abs p.y ≤ 1000) (sym (vertex-backwards vs i (omega arith))) (y (back (length vs) i) (back_below (length vs) i (omega arith)));
       once = λ i j k o same.
-        let one : back (length vs) i ≡ back (length vs) j = once (back (length vs) i) (back (length vs) j) (back_below (length vs) i (omega arith)) (back_below (length vs) j (omega arith))
+          let one : back (length vs) i ≡ back (length vs) j = once (back (length vs) i) (back (length vs) j) (back_below (length vs) i (omega arith)) (back_below (length vs) j (omega arith))
           (sym (vertex-backwards vs i (omega arith)) ∙ same ∙ vertex-backwards vs j (omega arith)) in
-        sym (back_back (length vs) i (omega arith)) ∙ ap (back (length vs)) one ∙ back_back (length vs) j (omega arith);
+          sym (back_back (length vs) i (omega arith)) ∙ ap (back (length vs)) one ∙ back_back (length vs) j (omega arith);
       convex = λ d w k o. subst (λ (z : ℤ). pos 0 ≤ℤ z) (sym (cross-backwards vs d w (omega arith) (omega arith)))
-        (flipped (cross_at vs (length vs - 1 - d) (back (length vs) w)) (right (length vs - 1 - d) (back (length vs) w) (omega arith) (back_below (length vs) w (omega arith))));
+          (flipped (cross_at vs (length vs - 1 - d) (back (length vs) w)) (right (length vs - 1 - d) (back (length vs) w) (omega arith) (back_below (length vs) w (omega arith))));
       wide =
-        let k : length vs - 1 - e < length vs = omega arith in
-        let o : back (length vs) v < length vs = back_below (length vs) v m in
-        let same : cross_at vs (length vs - 1 - (length vs - 1 - e)) (back (length vs) (back (length vs) v)) ≡ cross_at vs e v =
+          let k : length vs - 1 - e < length vs = omega arith in
+          let o : back (length vs) v < length vs = back_below (length vs) v m in
+          let same : cross_at vs (length vs - 1 - (length vs - 1 - e)) (back (length vs) (back (length vs) v)) ≡ cross_at vs e v =
           ap (λ d. cross_at vs d (back (length vs) (back (length vs) v))) (let r : length vs - 1 - (length vs - 1 - e) ≡ e = omega arith in r)
-          ∙ ap (cross_at vs e) (back_back (length vs) v m) in
-        (length vs - 1 - e, back (length vs) v, omega arith, omega arith,
-          subst (λ (z : ℤ). pos 0 <ℤ z) (sym (cross-backwards vs (length vs - 1 - e) (back (length vs) v) k o ∙ ap neg_ℤ same)) (above (cross_at vs e v) strict));
+          ∙ ap (cross_at vs e) (back_back (length vs) v m) in (
+            length vs - 1 - e,
+            back (length vs) v,
+            omega arith,
+            omega arith,
+            subst (λ (z : ℤ). pos 0 <ℤ z) (sym (cross-backwards vs (length vs - 1 - e) (back (length vs) v) k o ∙ ap neg_ℤ same)) (above (cross_at vs e v) strict),
+          );
     }
   where
     flipped : (z : ℤ) → z ≤ℤ pos 0 → pos 0 ≤ℤ neg_ℤ z
     flipped z h = omega (arith, ints)
+
     above : (z : ℤ) → z <ℤ pos 0 → pos 0 <ℤ neg_ℤ z
     above z h = omega (arith, ints)
 
@@ -160,6 +165,7 @@ least_moved f g m h (v ∷ vs) l = ap (λ z. fold int_min z (map f (map g vs))) 
   where
     less : (a b : ℤ) → int_min (a -ℤ m) (b -ℤ m) ≡ (int_min a b -ℤ m)
     less a b = omega (arith, ints, clamps)
+
     along : (a : ℤ) (us : List Point) → fold int_min (a -ℤ m) (map f (map g us)) ≡ (fold int_min a (map f us) -ℤ m)
     along a [] = refl
     along a (u ∷ us) =
@@ -220,9 +226,13 @@ convex_by vs h =
 wide_by : (vs : List Point) (e v : ℕ) → e < length vs → v < length vs → pos 0 <ℤ cross_at vs e v
     → Any (λ e. Any (λ v. pos 0 <ℤ cross e.0 e.1 v) vs) (edges vs)
 wide_by vs e v l m h =
-    let n = length-edges vs in
-    (e, edge vs e, omega arith, get_or_default (edges vs) e (edge vs e) (origin, origin) (omega arith),
-      (v, vertex vs v, m, get_or_default vs v (vertex vs v) origin m, h))
+    let n = length-edges vs in (
+      e,
+      edge vs e,
+      omega arith,
+      get_or_default (edges vs) e (edge vs e) (origin, origin) (omega arith),
+      (v, vertex vs v, m, get_or_default vs v (vertex vs v) origin m, h),
+    )
 
 distinct_by : (vs : List Point) → ((i j : ℕ) → i < length vs → j < length vs → vertex vs i ≡ vertex vs j → i ≡ j) → AllPairs (λ v w. v ≢ w) vs
 distinct_by vs once i j d l m same =
@@ -237,28 +247,30 @@ shape-shifted vs o =
     let n = length-map vs (way x y) in
     let many : 1 ≤ length vs = let s = o.some in omega arith in
     let low_x : negsuc 999 ≤ℤ x = least_within (λ p. p.x) (negsuc 999) vs many
-        (All-from_get_or (λ (p : Point). negsuc 999 ≤ℤ p.x) vs origin (λ i l. low (vertex vs i).x (o.near_x i l))) in
+    (All-from_get_or (λ (p : Point). negsuc 999 ≤ℤ p.x) vs origin (λ i l. low (vertex vs i).x (o.near_x i l))) in
     let low_y : negsuc 999 ≤ℤ y = least_within (λ p. p.y) (negsuc 999) vs many
-        (All-from_get_or (λ (p : Point). negsuc 999 ≤ℤ p.y) vs origin (λ i l. low (vertex vs i).y (o.near_y i l))) in
+    (All-from_get_or (λ (p : Point). negsuc 999 ≤ℤ p.y) vs origin (λ i l. low (vertex vs i).y (o.near_y i l))) in
     record {
       some = let s = o.some in omega arith;
       few = let s = o.few in omega arith;
       low_x = least_moved (λ p. p.x) (way x y) x (λ p. refl) vs many ∙ none x;
       low_y = least_moved (λ p. p.y) (way x y) y (λ p. refl) vs many ∙ none y;
       reach = All-from_get_or (λ (v : Point). (v.x ≤ℤ pos 2000) × (v.y ≤ℤ pos 2000)) (map (way x y) vs) origin
-        (λ i l. subst (λ (v : Point). (v.x ≤ℤ pos 2000) × (v.y ≤ℤ pos 2000)) (sym (vertex-map (way x y) vs i (omega arith)))
+          (λ i l. subst (λ (v : Point). (v.x ≤ℤ pos 2000) × (v.y ≤ℤ pos 2000)) (sym (vertex-map (way x y) vs i (omega arith)))
           (reach (vertex vs i).x x (o.near_x i (omega arith)) low_x, reach (vertex vs i).y y (o.near_y i (omega arith)) low_y));
       distinct = distinct_by (map (way x y) vs) (λ i j l m same. o.once i j (omega arith) (omega arith)
-        (way_one x y (vertex vs i) (vertex vs j) (sym (vertex-map (way x y) vs i (omega arith)) ∙ same ∙ vertex-map (way x y) vs j (omega arith))));
+          (way_one x y (vertex vs i) (vertex vs j) (sym (vertex-map (way x y) vs i (omega arith)) ∙ same ∙ vertex-map (way x y) vs j (omega arith))));
       convex = convex_by (map (way x y) vs) (λ e v l m. subst (λ (z : ℤ). pos 0 ≤ℤ z) (sym (cross_at-way x y vs e v (omega arith) (omega arith)))
-        (o.convex e v (omega arith) (omega arith)));
+          (o.convex e v (omega arith) (omega arith)));
       wide = let (e, v, l, m, h) = o.wide in
-        wide_by (map (way x y) vs) e v (omega arith) (omega arith) (subst (λ (z : ℤ). pos 0 <ℤ z) (sym (cross_at-way x y vs e v l m)) h);
+          wide_by (map (way x y) vs) e v (omega arith) (omega arith) (subst (λ (z : ℤ). pos 0 <ℤ z) (sym (cross_at-way x y vs e v l m)) h);
     }
   where
     low : (z : ℤ) → unsigned_abs z ≤ 1000 → negsuc 999 ≤ℤ z
     low z h = omega (arith, ints)
+
     none : (z : ℤ) → (z -ℤ z) ≡ pos 0
     none z = omega (arith, ints)
+
     reach : (a b : ℤ) → unsigned_abs a ≤ 1000 → negsuc 999 ≤ℤ b → (a -ℤ b) ≤ℤ pos 2000
     reach a b h k = omega (arith, ints)

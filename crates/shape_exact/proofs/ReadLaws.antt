@@ -41,6 +41,7 @@ none_at {A} (suc n) f e i l = elim (cases_lt i n) [
     left : (o p : Option A) → option_or o p ≡ None → o ≡ None
     left None p e = refl
     left (Some x) p e = e
+
     right : (o p : Option A) → option_or o p ≡ None → p ≡ None
     right None p e = e
     right (Some x) p e = absurd (none-some x (sym e))

@@ -67,7 +67,11 @@ fn end_of(points: &[Point], e: usize) -> Point
     requires { e < length points.now }
     ensures { edge points.now e ≡ (vertex points.now e, result) }
 {
-    if e + 1 < points.len() { points[e + 1] } else { points[0] }
+    if e + 1 < points.len() {
+        points[e + 1]
+    } else {
+        points[0]
+    }
 }
 
 /// The cross product of two vectors.

@@ -15,4 +15,3 @@ pub returns-then-is_same : goal.returns-then-is_same
 returns-then-is_same c =
     sym (first_is _ c.loop-j.j (equal_at c.args.points.now c.args.i) c.loop-j.j c.loop-j.invariant c.loop-j-test.true
     (alike c.args.points.now c.args.i c.loop-j.j (omega arith) (sym c.is_same.ensures ∙ c.if-is_same.true)))
-

@@ -12,6 +12,7 @@ moved_back-requires-clause-corner c = at c.args.points.now c.lower_corner.result
   where
     at : (vs : List Point) (corner : Point) → 1 ≤ length vs → AreNear vs → corner.x ≡ least (λ p. p.x) vs → corner.y ≡ least (λ p. p.y) vs
         → (unsigned_abs corner.x ≤ 1000) × (unsigned_abs corner.y ≤ 1000)
-    at vs corner some near x y =
-        (subst (λ (z : ℤ). unsigned_abs z ≤ 1000) (sym x) (least_near (λ p. p.x) vs some (λ k d l. near_x (get_or vs k d) (near k d l))),
-         subst (λ (z : ℤ). unsigned_abs z ≤ 1000) (sym y) (least_near (λ p. p.y) vs some (λ k d l. near_y (get_or vs k d) (near k d l))))
+    at vs corner some near x y = (
+      subst (λ (z : ℤ). unsigned_abs z ≤ 1000) (sym x) (least_near (λ p. p.x) vs some (λ k d l. near_x (get_or vs k d) (near k d l))),
+      subst (λ (z : ℤ). unsigned_abs z ≤ 1000) (sym y) (least_near (λ p. p.y) vs some (λ k d l. near_y (get_or vs k d) (near k d l))),
+    )
