@@ -30,13 +30,13 @@ side-placed e at s =
     ap (λ (d : ℤ). d *ℤ (s.y -ℤ pos s.n *ℤ (e.from.y +ℤ at.y)) -ℤ (e.to.y -ℤ e.from.y) *ℤ (s.x -ℤ pos s.n *ℤ (e.from.x +ℤ at.x))) (same_direction e.from.x e.to.x at.x)
     ∙ ap (λ (d : ℤ). ((e.to.x +ℤ at.x) -ℤ (e.from.x +ℤ at.x)) *ℤ (s.y -ℤ pos s.n *ℤ (e.from.y +ℤ at.y)) -ℤ d *ℤ (s.x -ℤ pos s.n *ℤ (e.from.x +ℤ at.x))) (same_direction e.from.y e.to.y at.y)
 
-above_from : (a : ℤ) → int_lt (pos 0) a ≡ true → pos 0 <ℤ a
+pub above_from : (a : ℤ) → int_lt (pos 0) a ≡ true → pos 0 <ℤ a
 above_from a h = omega (arith, ints)
 
-above_to : (a : ℤ) → pos 0 <ℤ a → int_lt (pos 0) a ≡ true
+pub above_to : (a : ℤ) → pos 0 <ℤ a → int_lt (pos 0) a ≡ true
 above_to a h = grind (arith, ints)
 
-both_true : (a b : Bool) → (a && b) ≡ true → (a ≡ true) × (b ≡ true)
+pub both_true : (a b : Bool) → (a && b) ≡ true → (a ≡ true) × (b ≡ true)
 both_true true b h = (refl, h)
 both_true false b h = absurd (let e : false ≡ true = h in cc)
 

@@ -119,7 +119,7 @@ pub sum-add : (n : ℕ) (f g : ℕ → ℕ) → sum_below n f + sum_below n g �
 sum-add zero f g = omega arith
 sum-add (suc n) f g = let h = sum-add n f g in omega arith
 
-sum-add_range : (m n : ℕ) (f : ℕ → ℕ) → sum_below (m + n) f ≡ sum_below m f + sum_below n (λ i. f (m + i))
+pub sum-add_range : (m n : ℕ) (f : ℕ → ℕ) → sum_below (m + n) f ≡ sum_below m f + sum_below n (λ i. f (m + i))
 sum-add_range m zero f = ap (λ n. sum_below n f) (let e : m + zero ≡ m = omega arith in e) ∙ (let e : sum_below m f ≡ sum_below m f + 0 = omega arith in e)
 sum-add_range m (suc n) f =
     ap (λ n. sum_below n f) (let e : m + suc n ≡ suc (m + n) = omega arith in e)

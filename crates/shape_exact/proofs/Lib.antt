@@ -21,6 +21,7 @@ pub mod FlipLaws
 pub mod ZipLaws
 pub mod BridgeLaws
 pub mod ApartLaws
+pub mod ColumnLaws
 pub mod YardLaws
 pub mod ShapeLaws
 pub mod CornerLaws

@@ -5,3 +5,4 @@ pub mod Shapes
 pub mod Yards
 pub mod Separation
 pub mod Reading
+pub mod Cells

@@ -6,6 +6,7 @@
 #![tactic(auto)]
 
 mod block;
+mod cells;
 mod corner;
 mod day_list;
 mod memory;

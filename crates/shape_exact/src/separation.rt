@@ -11,7 +11,7 @@ ghost use Rattle.shape_exact.specs.Separation.{IsWithin, EachEdgeSees, HasSepara
 use crate::{Point, Shape};
 
 /// The cross product of two vectors.
-fn cross_product(ax: i32, ay: i32, bx: i32, by: i32) -> i32
+pub(crate) fn cross_product(ax: i32, ay: i32, bx: i32, by: i32) -> i32
     requires ax { unsigned_abs ax ≤ 24000 }
     requires ay { unsigned_abs ay ≤ 24000 }
     requires bx { unsigned_abs bx ≤ 24000 }
@@ -55,7 +55,7 @@ fn sees(from: Point, to: Point, vertices: &[Point], by: Point) -> bool
 }
 
 /// The vertex where edge `i` ends: the next one, and after the last the first.
-fn end_of(vertices: &[Point], i: usize) -> Point
+pub(crate) fn end_of(vertices: &[Point], i: usize) -> Point
     requires i { i < length vertices.now }
     requires vertices { All (IsWithin 2000) vertices.now }
     ensures edge { (d : Point × Point) → slice_index_or (edges vertices.now) i d ≡ (slice_index_or vertices.now i d.0, result) }
