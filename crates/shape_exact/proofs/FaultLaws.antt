@@ -7,12 +7,14 @@ use Rattle.std.proofs.lemmas.Bool.Decides.{nat_tests}
 use Rattle.std.proofs.lemmas.Int.{ints}
 use Rattle.std.proofs.lemmas.Option.{none-some, same_Some}
 use Rattle.std.proofs.lemmas.Cmp.{int_eq_equiv}
+use Rattle.std.specs.List.{All}
 use Rattle.std.proofs.lemmas.List.Elements.{All-from_get_or}
 use Rattle.shape_exact.specs.declared.point.Point.{Point}
 use Rattle.shape_exact.specs.declared.shape.ShapeFault.TheVariants.{TooFew, TooMany, Range, Equal, NotConvex, Flat}
 use Rattle.shape_exact.specs.Shapes.{IsShape, shifted, origin}
-use Rattle.shape_exact.specs.Reading.{first_below, where_so, vertex, cross_at, is_near, AreNear, is_same, first_far, first_equal, first_equal_to, sign, sign_of_edge, inner_sign, is_other, other_of_edge, first_other, leftwards, backwards, shape_of}
-use Rattle.shape_exact.proofs.ReadLaws.{none_at, some_at, far_at, equal_at, pair_at, sign_at, other_at, sides_at, near_x, near_y}
+use Rattle.shape_exact.specs.Reading.{first_below, where_so, vertex, cross_at, is_near, is_same, first_far, first_equal, first_equal_to, sign, sign_of_edge, inner_sign, is_other, other_of_edge, first_other, leftwards, backwards, shape_of}
+use Rattle.shape_exact.proofs.ReadLaws.{none_at, some_at, far_at, equal_at, pair_at, sign_at, other_at, sides_at, near_within}
+use Rattle.shape_exact.specs.Separation.{IsWithin}
 use Rattle.shape_exact.proofs.OutlineLaws.{IsOutline, outline-backwards, shape-shifted}
 
 not_few : (vs : List Point) → 3 ≤ length vs → nat_lt (length vs) 3 ≡ false
@@ -54,15 +56,15 @@ unfolding shape_of
 good vs left some few near once inner e = rw (not_few vs some, not_many vs few, near, once, inner, e) refl
 
 -- ---- what holds where there is no fault
-pub all_near : (vs : List Point) → first_far vs ≡ None → (i : ℕ) → i < length vs → is_near (vertex vs i) ≡ true
+all_near : (vs : List Point) → first_far vs ≡ None → (i : ℕ) → i < length vs → is_near (vertex vs i) ≡ true
 all_near vs e i l = by (is_near (vertex vs i)) (none_at (length vs) (far_at vs) e i l)
   where
     by : (b : Bool) → (if b then None else Some i) ≡ None → b ≡ true
     by true h = refl
     by false h = absurd (none-some i (sym h))
 
-pub are_near : (vs : List Point) → first_far vs ≡ None → AreNear vs
-are_near vs e = All-from_get_or (λ p. is_near p ≡ true) vs origin (all_near vs e)
+pub are_near : (vs : List Point) → first_far vs ≡ None → All (IsWithin 1000) vs
+are_near vs e = All-from_get_or (IsWithin 1000) vs origin (λ i l. near_within (vertex vs i) (all_near vs e i l))
 
 nothing : {A : Type 0} (b : Bool) (x : A) → where_so b x ≡ None → b ≡ false
 nothing true x h = absurd (none-some x (sym h))
@@ -131,8 +133,7 @@ outline vs true some few near alone i o =
     record {
       some = some;
       few = few;
-      near_x = λ k h. near_x (vertex vs k) (all_near vs near k h);
-      near_y = λ k h. near_y (vertex vs k) (all_near vs near k h);
+      near = are_near vs near;
       once = once vs alone;
       convex = λ d w h k. not_below (cross_at vs d w) (no_other vs true o d w h k);
       wide = (e, v, l, m, above (cross_at vs e v) at);
@@ -140,8 +141,7 @@ outline vs true some few near alone i o =
 outline vs false some few near alone i o =
     let (e, v, l, m, at) = inner vs false i in
     outline-backwards vs some few
-    (λ k h. near_x (vertex vs k) (all_near vs near k h)) (λ k h. near_y (vertex vs k) (all_near vs near k h))
-    (once vs alone)
+    (are_near vs near) (once vs alone)
     (λ d w h k. not_above (cross_at vs d w) (no_other vs false o d w h k))
     (e, v, l, m, below (cross_at vs e v) at)
 

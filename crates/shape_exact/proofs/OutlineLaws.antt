@@ -11,18 +11,18 @@ use Rattle.std.proofs.lemmas.List.{get_or-reverse, get_or-map, get_or_default, l
 use Rattle.std.proofs.lemmas.List.Elements.{All-from_get_or}
 use Rattle.shape_exact.specs.declared.point.Point.{Point}
 use Rattle.shape_exact.specs.Shapes.{IsShape, IsConvex, edges, cross, origin, least, shifted}
-use Rattle.shape_exact.specs.Reading.{vertex, edge, cross_at, backwards, is_near, AreNear}
+use Rattle.shape_exact.specs.Reading.{vertex, edge, cross_at, backwards}
 use Rattle.shape_exact.proofs.RingLaws.{ring, linear}
 use Rattle.shape_exact.proofs.CornerLaws.{above_least, least_within}
 use Rattle.shape_exact.proofs.FlipLaws.{side_flip}
-use Rattle.shape_exact.proofs.ReadLaws.{edge_inner, edge_closing}
+use Rattle.shape_exact.proofs.BridgeLaws.{edge_inner, edge_closing, length-edges}
+use Rattle.shape_exact.specs.Separation.{IsWithin}
 
 -- few vertices near the origin, no two equal, none on the right of an edge, and one on the left of an edge
 pub record IsOutline (vs : List Point) : Type 0 where
   pub some : 3 ≤ length vs
   pub few : length vs ≤ 16
-  pub near_x : (i : ℕ) → i < length vs → unsigned_abs (vertex vs i).x ≤ 1000
-  pub near_y : (i : ℕ) → i < length vs → unsigned_abs (vertex vs i).y ≤ 1000
+  pub near : All (IsWithin 1000) vs
   pub once : (i j : ℕ) → i < length vs → j < length vs → vertex vs i ≡ vertex vs j → i ≡ j
   pub convex : (e v : ℕ) → e < length vs → v < length vs → pos 0 ≤ℤ cross_at vs e v
   pub wide : (e : ℕ) × (v : ℕ) × (e < length vs) × (v < length vs) × (pos 0 <ℤ cross_at vs e v)
@@ -39,8 +39,8 @@ after_below n e l = elim (cases_lt (e + 1) n) [
 
 edge_is : (vs : List Point) (e : ℕ) → e < length vs → edge vs e ≡ (vertex vs e, vertex vs (after (length vs) e))
 edge_is vs e l = elim (cases_lt (e + 1) (length vs)) [
-  | inl inner ↦ let yes : nat_lt (e + 1) (length vs) ≡ true = grind (arith, nat_tests) in rw yes (edge_inner vs e inner)
-  | inr last ↦ let no : nat_lt (e + 1) (length vs) ≡ false = grind (arith, nat_tests) in rw no (edge_closing vs e (omega arith))
+  | inl inner ↦ let yes : nat_lt (e + 1) (length vs) ≡ true = grind (arith, nat_tests) in rw yes (edge_inner vs e (origin, origin) origin inner)
+  | inr last ↦ let no : nat_lt (e + 1) (length vs) ≡ false = grind (arith, nat_tests) in rw no (edge_closing vs e (origin, origin) origin (omega arith))
 ]
 
 -- ---- walked the other way round
@@ -89,11 +89,11 @@ vertex-backwards (v ∷ vs) (suc k) l =
     at : (i j : ℕ) → j ≡ suc i → get_or vs i origin ≡ get_or (v ∷ vs) j origin
     at i j e = rw e refl
 
-pub near-backwards : (vs : List Point) → AreNear vs → AreNear (backwards vs)
+pub near-backwards : (vs : List Point) → All (IsWithin 1000) vs → All (IsWithin 1000) (backwards vs)
 near-backwards vs h =
     let n = length-backwards vs in
-    All-from_get_or (λ p. is_near p ≡ true) (backwards vs) origin
-    (λ i l. subst (λ (p : Point). is_near p ≡ true) (sym (vertex-backwards vs i (omega arith)))
+    All-from_get_or (IsWithin 1000) (backwards vs) origin
+    (λ i l. subst (IsWithin 1000) (sym (vertex-backwards vs i (omega arith)))
     (h (back (length vs) i) origin (back_below (length vs) i (omega arith))))
 
 edge-backwards : (vs : List Point) (e : ℕ) → e < length vs
@@ -118,18 +118,17 @@ cross-backwards vs e v l m =
 
 -- a line that is walked clockwise, the other way round
 pub outline-backwards : (vs : List Point) → 3 ≤ length vs → length vs ≤ 16
-    → ((i : ℕ) → i < length vs → unsigned_abs (vertex vs i).x ≤ 1000) → ((i : ℕ) → i < length vs → unsigned_abs (vertex vs i).y ≤ 1000)
+    → All (IsWithin 1000) vs
     → ((i j : ℕ) → i < length vs → j < length vs → vertex vs i ≡ vertex vs j → i ≡ j)
     → ((e v : ℕ) → e < length vs → v < length vs → cross_at vs e v ≤ℤ pos 0)
     → (e : ℕ) × (v : ℕ) × (e < length vs) × (v < length vs) × (cross_at vs e v <ℤ pos 0)
     → IsOutline (backwards vs)
-outline-backwards vs some few x y once right (e, v, l, m, strict) =
+outline-backwards vs some few near once right (e, v, l, m, strict) =
     let n = length-backwards vs in
     record {
       some = omega arith;
       few = omega arith;
-      near_x = λ i k. subst (λ (p : Point). unsigned_abs p.x ≤ 1000) (sym (vertex-backwards vs i (omega arith))) (x (back (length vs) i) (back_below (length vs) i (omega arith)));
-      near_y = λ i k. subst (λ (p : Point). unsigned_abs p.y ≤ 1000) (sym (vertex-backwards vs i (omega arith))) (y (back (length vs) i) (back_below (length vs) i (omega arith)));
+      near = near-backwards vs near;
       once = λ i j k o same.
           let one : back (length vs) i ≡ back (length vs) j = once (back (length vs) i) (back (length vs) j) (back_below (length vs) i (omega arith)) (back_below (length vs) j (omega arith))
           (sym (vertex-backwards vs i (omega arith)) ∙ same ∙ vertex-backwards vs j (omega arith)) in
@@ -207,15 +206,6 @@ way_one x y a b e =
     cancel : (h a b : ℤ) → (a -ℤ h) ≡ (b -ℤ h) → a ≡ b
     cancel h a b e = omega (arith, ints)
 
-pub length-edges : (vs : List Point) → length (edges vs) ≡ length vs
-length-edges [] = refl
-length-edges (v ∷ vs) = at (v ∷ vs) (vs ++ v ∷ []) (simp length-append (omega arith))
-  where
-    at : (us ws : List Point) → length us ≡ length ws → length (zip us ws) ≡ length us
-    at [] ws e = refl
-    at (u ∷ us) [] e = absurd (omega arith)
-    at (u ∷ us) (w ∷ ws) e = let h = at us ws (omega arith) in omega arith
-
 -- the words of a footprint's invariant, from those of an outline
 convex_by : (vs : List Point) → ((e v : ℕ) → e < length vs → v < length vs → pos 0 ≤ℤ cross_at vs e v) → IsConvex vs
 convex_by vs h =
@@ -247,9 +237,9 @@ shape-shifted vs o =
     let n = length-map vs (way x y) in
     let many : 1 ≤ length vs = let s = o.some in omega arith in
     let low_x : negsuc 999 ≤ℤ x = least_within (λ p. p.x) (negsuc 999) vs many
-    (All-from_get_or (λ (p : Point). negsuc 999 ≤ℤ p.x) vs origin (λ i l. low (vertex vs i).x (o.near_x i l))) in
+    (All-from_get_or (λ (p : Point). negsuc 999 ≤ℤ p.x) vs origin (λ i l. low (vertex vs i).x (o.near i origin l).0)) in
     let low_y : negsuc 999 ≤ℤ y = least_within (λ p. p.y) (negsuc 999) vs many
-    (All-from_get_or (λ (p : Point). negsuc 999 ≤ℤ p.y) vs origin (λ i l. low (vertex vs i).y (o.near_y i l))) in
+    (All-from_get_or (λ (p : Point). negsuc 999 ≤ℤ p.y) vs origin (λ i l. low (vertex vs i).y (o.near i origin l).1)) in
     record {
       some = let s = o.some in omega arith;
       few = let s = o.few in omega arith;
@@ -257,7 +247,7 @@ shape-shifted vs o =
       low_y = least_moved (λ p. p.y) (way x y) y (λ p. refl) vs many ∙ none y;
       reach = All-from_get_or (λ (v : Point). (v.x ≤ℤ pos 2000) × (v.y ≤ℤ pos 2000)) (map (way x y) vs) origin
           (λ i l. subst (λ (v : Point). (v.x ≤ℤ pos 2000) × (v.y ≤ℤ pos 2000)) (sym (vertex-map (way x y) vs i (omega arith)))
-          (reach (vertex vs i).x x (o.near_x i (omega arith)) low_x, reach (vertex vs i).y y (o.near_y i (omega arith)) low_y));
+          (reach (vertex vs i).x x (o.near i origin (omega arith)).0 low_x, reach (vertex vs i).y y (o.near i origin (omega arith)).1 low_y));
       distinct = distinct_by (map (way x y) vs) (λ i j l m same. o.once i j (omega arith) (omega arith)
           (way_one x y (vertex vs i) (vertex vs j) (sym (vertex-map (way x y) vs i (omega arith)) ∙ same ∙ vertex-map (way x y) vs j (omega arith))));
       convex = convex_by (map (way x y) vs) (λ e v l m. subst (λ (z : ℤ). pos 0 ≤ℤ z) (sym (cross_at-way x y vs e v (omega arith) (omega arith)))

@@ -1,16 +1,15 @@
 -- The first of several, and the faults of points in their order.
 use Rattle.std.proofs.Common.{◌≡◌, ℕ, zero, suc, ◌+◌, ◌<◌, ◌≤◌, Option, Some, None, refl, sym, ap, ◌∙◌, subst, arith, inl, inr, ◌⊎◌, Bool, true, false, add-one, List, [], ◌∷◌, ◌++◌, length, length-append, get_or}
 use Rattle.std.specs.Prelude.{nat_lt, ◌&&◌, if◌then◌else◌, ℤ, ◌-ℤ◌, unsigned_abs}
-use Rattle.std.specs.List.{zip}
-use Rattle.std.proofs.lemmas.Int.{ints}
-use Rattle.std.proofs.lemmas.List.{get_or_append_left, get_or_push}
-use Rattle.shape_exact.specs.Shapes.{origin}
+use Rattle.std.specs.List.{All}
+use Rattle.std.proofs.lemmas.List.Elements.{All-weaker}
 use Rattle.std.specs.Option.{option_or, option_map}
 use Rattle.std.proofs.lemmas.Bool.Decides.{nat_tests}
 use Rattle.shape_exact.specs.declared.point.Point.{Point}
 use Rattle.std.proofs.lemmas.Bool.{cases_lt}
 use Rattle.std.proofs.lemmas.Option.{none-some}
-use Rattle.shape_exact.specs.Reading.{first_below, where_so, vertex, is_near, is_same, first_equal_to, sign, cross_at, is_other, other_of_edge, edge, AreNear}
+use Rattle.shape_exact.specs.Reading.{first_below, where_so, vertex, is_near, is_same, first_equal_to, sign, cross_at, is_other, other_of_edge}
+use Rattle.shape_exact.specs.Separation.{IsWithin}
 
 -- ---- the first of several
 -- none of the numbers so far, nor this one
@@ -87,36 +86,8 @@ pub alike : (vs : List Point) (i j : ℕ) → i < j → is_same (vertex vs i) (v
 alike vs i j l h = let yes : nat_lt i j ≡ true = grind (arith, nat_tests) in rw (yes, h) refl
 
 -- ---- bounds
-pub near_x : (p : Point) → is_near p ≡ true → unsigned_abs p.x ≤ 1000
-near_x p h = grind (arith, nat_tests)
+pub near_within : (p : Point) → is_near p ≡ true → IsWithin 1000 p
+near_within p h = (grind (arith, nat_tests), grind (arith, nat_tests))
 
-pub near_y : (p : Point) → is_near p ≡ true → unsigned_abs p.y ≤ 1000
-near_y p h = grind (arith, nat_tests)
-
--- ---- edges by number
-get_zip : {A : Type 0} (us vs : List A) (k : ℕ) (c d : A) → k < length us → k < length vs → get_or (zip us vs) k (c, d) ≡ (get_or us k c, get_or vs k d)
-get_zip [] vs k c d l m = absurd (omega arith)
-get_zip (u ∷ us) [] k c d l m = absurd (omega arith)
-get_zip (u ∷ us) (v ∷ vs) zero c d l m = refl
-get_zip (u ∷ us) (v ∷ vs) (suc k) c d l m = get_zip us vs k c d (omega arith) (omega arith)
-
--- an edge before the last
-pub edge_inner : (vs : List Point) (e : ℕ) → e + 1 < length vs → edge vs e ≡ (vertex vs e, vertex vs (e + 1))
-edge_inner [] e l = absurd (omega arith)
-edge_inner (v ∷ vs) e l =
-    get_zip (v ∷ vs) (vs ++ v ∷ []) e origin origin (omega arith) (simp length-append (omega arith))
-    ∙ ap (λ (w : Point). (get_or (v ∷ vs) e origin, w)) (get_or_append_left vs (v ∷ []) origin e (omega arith) ∙ rw add-one refl)
-
--- the last edge
-pub edge_closing : (vs : List Point) (e : ℕ) → e + 1 ≡ length vs → edge vs e ≡ (vertex vs e, vertex vs 0)
-edge_closing [] e l = absurd (omega arith)
-edge_closing (v ∷ vs) e l =
-    get_zip (v ∷ vs) (vs ++ v ∷ []) e origin origin (omega arith) (simp length-append (omega arith))
-    ∙ ap (λ (w : Point). (get_or (v ∷ vs) e origin, w)) (get_or_push vs v origin e (omega arith))
-
--- the end of an edge is a vertex
-pub end_near : (vs : List Point) (e : ℕ) (p : Point) → AreNear vs → e < length vs → edge vs e ≡ (vertex vs e, p) → is_near p ≡ true
-end_near vs e p near l at = elim (cases_lt (e + 1) (length vs)) [
-  | inl inner ↦ subst (λ (q : Point). is_near q ≡ true) (ap (λ (d : Point × Point). d.1) (sym (edge_inner vs e inner) ∙ at)) (near (e + 1) origin inner)
-  | inr last ↦ subst (λ (q : Point). is_near q ≡ true) (ap (λ (d : Point × Point). d.1) (sym (edge_closing vs e (omega arith)) ∙ at)) (near 0 origin (omega arith))
-]
+pub within_more : (vs : List Point) → All (IsWithin 1000) vs → All (IsWithin 2000) vs
+within_more vs h = All-weaker (IsWithin 1000) (IsWithin 2000) (λ p w. let x = w.0 in let y = w.1 in (omega arith, omega arith)) vs h

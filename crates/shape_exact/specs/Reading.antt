@@ -1,6 +1,5 @@
 -- Reading a footprint from a list of points.
-use Rattle.std.specs.Prelude.{◌≡◌, ℕ, zero, suc, Bool, true, false, ◌&&◌, nat_lt, nat_le, ℤ, pos, negsuc, int_lt, unsigned_abs, Option, Some, None, Result, Ok, Err, List, [], ◌∷◌, length, reverse, slice_index_or, if◌then◌else◌}
-use Rattle.std.specs.List.{All}
+use Rattle.std.specs.Prelude.{ℕ, zero, suc, Bool, true, false, ◌&&◌, nat_lt, nat_le, ℤ, pos, negsuc, int_lt, unsigned_abs, Option, Some, None, Result, Ok, Err, List, [], ◌∷◌, length, reverse, slice_index_or, if◌then◌else◌}
 use Rattle.std.specs.Option.{option_or, option_map}
 use Rattle.std.specs.Ordering.{int_eq}
 use Rattle.shape_exact.specs.declared.point.Point.{Point}
@@ -29,10 +28,6 @@ edge vs e = slice_index_or (edges vs) e (origin, origin)
 -- both coordinates are from -1000 to 1000
 abbrev pub is_near : Point → Bool
 is_near p = nat_le (unsigned_abs p.x) 1000 && nat_le (unsigned_abs p.y) 1000
-
--- no vertex is out of range
-abbrev pub AreNear : List Point → Type 0
-AreNear vs = All (λ p. is_near p ≡ true) vs
 
 -- the first vertex out of range
 abbrev pub first_far : List Point → Option ℕ

@@ -9,6 +9,7 @@ mod block;
 mod cells;
 mod corner;
 mod day_list;
+mod faults;
 mod memory;
 mod name;
 mod plate;

@@ -1,7 +1,7 @@
 use Rattle.std.proofs.Common.{◌≡◌, None}
 use Rattle.shape_exact.specs.Reading.{first_below}
 use Rattle.shape_exact.proofs.ReadLaws.{far_at}
-use Rattle.shape_exact.proofs.read.first_far.Given as goal
+use Rattle.shape_exact.proofs.faults.first_far.Given as goal
 
 abbrev pub invariant-loop-i : goal.invariant-loop-i
 invariant-loop-i l = first_below l.i (far_at l.points) ≡ None

@@ -2,7 +2,7 @@ use Rattle.std.proofs.Common.{◌≡◌, ◌∙◌, ap, sym, refl, true, false, 
 use Rattle.std.proofs.lemmas.Int.{to_z-of_z}
 use Rattle.shape_exact.specs.Reading.{is_other, cross_at}
 use Rattle.shape_exact.proofs.ReadLaws.{other_at, first_is, first_more}
-use Rattle.shape_exact.proofs.read.other_of_edge.Goals as goal
+use Rattle.shape_exact.proofs.faults.other_of_edge.Goals as goal
 
 pub returns-then-is_other : goal.returns-then-is_other
 returns-then-is_other c =

@@ -1,7 +1,7 @@
 use Rattle.std.proofs.Common.{◌≡◌, sym, refl, Some}
 use Rattle.shape_exact.specs.Reading.{first_equal_to}
 use Rattle.shape_exact.proofs.ReadLaws.{pair_at, first_is}
-use Rattle.shape_exact.proofs.read.first_equal.Goals as goal
+use Rattle.shape_exact.proofs.faults.first_equal.Goals as goal
 
 pub returns-in-Some : goal.returns-in-Some
 returns-in-Some c =

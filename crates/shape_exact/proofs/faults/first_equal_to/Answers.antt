@@ -1,7 +1,7 @@
 use Rattle.std.proofs.Common.{◌≡◌, ◌∙◌, sym, ◌+◌, arith, ap, subst, None}
 use Rattle.shape_exact.specs.Reading.{first_below}
 use Rattle.shape_exact.proofs.ReadLaws.{equal_at, not_after, unlike, alike, first_more, first_is, none_below}
-use Rattle.shape_exact.proofs.read.first_equal_to.Goals as goal
+use Rattle.shape_exact.proofs.faults.first_equal_to.Goals as goal
 
 pub loop-j-init : goal.loop-j-init
 loop-j-init c = none_below (c.args.i + 1) (equal_at c.args.points.now c.args.i) (λ j l. not_after c.args.points.now c.args.i j (omega arith))

@@ -1,7 +1,7 @@
 use Rattle.std.proofs.Common.{◌≡◌, None}
 use Rattle.shape_exact.specs.Reading.{first_below}
 use Rattle.shape_exact.proofs.ReadLaws.{pair_at}
-use Rattle.shape_exact.proofs.read.first_equal.Given as goal
+use Rattle.shape_exact.proofs.faults.first_equal.Given as goal
 
 abbrev pub invariant-loop-i : goal.invariant-loop-i
 invariant-loop-i l = first_below l.i (pair_at l.points) ≡ None

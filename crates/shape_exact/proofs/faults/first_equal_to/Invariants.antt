@@ -1,7 +1,7 @@
 use Rattle.std.proofs.Common.{◌≡◌, None}
 use Rattle.shape_exact.specs.Reading.{first_below}
 use Rattle.shape_exact.proofs.ReadLaws.{equal_at}
-use Rattle.shape_exact.proofs.read.first_equal_to.Given as goal
+use Rattle.shape_exact.proofs.faults.first_equal_to.Given as goal
 
 abbrev pub invariant-loop-j : goal.invariant-loop-j
 invariant-loop-j l = first_below l.j (equal_at l.points l.i) ≡ None
