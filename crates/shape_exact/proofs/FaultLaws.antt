@@ -1,7 +1,7 @@
 -- The faults of points in their order, and what points without a fault keep.
-use Rattle.std.proofs.Common.{◌≡◌, ℕ, zero, suc, ◌+◌, ◌<◌, ◌≤◌, List, [], ◌∷◌, length, get_or, refl, sym, ap, ◌∙◌, subst, arith, inl, inr, true, false, Bool, Option, Some, None, Ok, Err, ◌⊎◌}
-use Rattle.std.specs.Prelude.{ℤ, pos, negsuc, ◌≤ℤ◌, ◌<ℤ◌, unsigned_abs, nat_lt, ◌&&◌, if◌then◌else◌}
-use Rattle.std.specs.Option.{option_or, option_map}
+use Rattle.std.proofs.Common.{◌≡◌, ℕ, zero, suc, ◌<◌, ◌≤◌, List, length, refl, sym, ◌∙◌, subst, arith, inl, inr, true, false, Bool, Option, Some, None, Ok, Err}
+use Rattle.std.specs.Prelude.{ℤ, pos, negsuc, ◌≤ℤ◌, ◌<ℤ◌, nat_lt, ◌&&◌, if◌then◌else◌}
+use Rattle.std.specs.Option.{option_map}
 use Rattle.std.proofs.lemmas.Bool.{cases_lt, false≢true}
 use Rattle.std.proofs.lemmas.Bool.Decides.{nat_tests}
 use Rattle.std.proofs.lemmas.Int.{ints}
@@ -12,7 +12,7 @@ use Rattle.std.proofs.lemmas.List.Elements.{All-from_get_or}
 use Rattle.shape_exact.specs.declared.point.Point.{Point}
 use Rattle.shape_exact.specs.declared.shape.ShapeFault.TheVariants.{TooFew, TooMany, Range, Equal, NotConvex, Flat}
 use Rattle.shape_exact.specs.Shapes.{IsShape, shifted, origin}
-use Rattle.shape_exact.specs.Reading.{first_below, where_so, vertex, cross_at, is_near, is_same, first_far, first_equal, first_equal_to, sign, sign_of_edge, inner_sign, is_other, other_of_edge, first_other, leftwards, backwards, shape_of}
+use Rattle.shape_exact.specs.Reading.{where_so, vertex, cross_at, is_near, is_same, first_far, first_equal, first_equal_to, sign, sign_of_edge, inner_sign, is_other, other_of_edge, first_other, leftwards, shape_of}
 use Rattle.shape_exact.proofs.ReadLaws.{none_at, some_at, far_at, equal_at, pair_at, sign_at, other_at, sides_at, near_within}
 use Rattle.shape_exact.specs.Separation.{IsWithin}
 use Rattle.shape_exact.proofs.OutlineLaws.{IsOutline, outline-backwards, shape-shifted}

@@ -1,9 +1,9 @@
 -- Outlines: closed lines of points, by the numbers of their vertices. An outline keeps what a footprint keeps when it is
 -- walked the other way round, and gives a footprint when it is shifted to least x and least y 0.
-use Rattle.std.proofs.Common.{◌≡◌, ℕ, zero, suc, ◌+◌, ◌-◌, ◌<◌, ◌≤◌, List, [], ◌∷◌, ◌++◌, length, map, reverse, get_or, refl, sym, ap, ◌∙◌, subst, arith, inl, inr, true, false, Bool, length-append}
+use Rattle.std.proofs.Common.{◌≡◌, ℕ, zero, suc, ◌+◌, ◌-◌, ◌<◌, ◌≤◌, List, [], ◌∷◌, length, map, get_or, refl, sym, ap, ◌∙◌, subst, arith, inl, inr, true, false}
 use Rattle.std.specs.Prelude.{ℤ, pos, negsuc, ◌-ℤ◌, ◌*ℤ◌, ◌≤ℤ◌, ◌<ℤ◌, neg_ℤ, unsigned_abs, fold, nat_lt, if◌then◌else◌, ◌≢◌}
 use Rattle.std.specs.Int.{int_min}
-use Rattle.std.specs.List.{All, Any, AllPairs, zip}
+use Rattle.std.specs.List.{All, Any, AllPairs}
 use Rattle.std.proofs.lemmas.Bool.{cases_lt}
 use Rattle.std.proofs.lemmas.Bool.Decides.{nat_tests}
 use Rattle.std.proofs.lemmas.Int.{ints, clamps}
@@ -13,7 +13,7 @@ use Rattle.shape_exact.specs.declared.point.Point.{Point}
 use Rattle.shape_exact.specs.Shapes.{IsShape, IsConvex, edges, cross, origin, least, shifted}
 use Rattle.shape_exact.specs.Reading.{vertex, edge, cross_at, backwards}
 use Rattle.shape_exact.proofs.RingLaws.{ring, linear}
-use Rattle.shape_exact.proofs.CornerLaws.{above_least, least_within}
+use Rattle.shape_exact.proofs.CornerLaws.{least_within}
 use Rattle.shape_exact.proofs.FlipLaws.{side_flip}
 use Rattle.shape_exact.proofs.BridgeLaws.{edge_inner, edge_closing, length-edges}
 use Rattle.shape_exact.specs.Separation.{IsWithin}

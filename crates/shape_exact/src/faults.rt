@@ -162,4 +162,3 @@ pub fn first_other(points: &[Point], left: bool) -> Option<(u8, u8)>
     }
     None
 }
-

@@ -1,5 +1,4 @@
-use Rattle.std.proofs.Common.{◌≡◌, ◌∙◌, sym, ◌+◌, arith, ap, subst, None}
-use Rattle.shape_exact.specs.Reading.{first_below}
+use Rattle.std.proofs.Common.{◌∙◌, sym, ◌+◌, arith}
 use Rattle.shape_exact.proofs.ReadLaws.{equal_at, not_after, unlike, alike, first_more, first_is, none_below}
 use Rattle.shape_exact.proofs.faults.first_equal_to.Goals as goal
 

@@ -1,4 +1,4 @@
-use Rattle.std.proofs.Common.{◌≡◌, ◌∷◌, ◌++◌, [], ◌+◌, ◌-◌, length, drop, reverse}
+use Rattle.std.proofs.Common.{◌≡◌, ◌∷◌, ◌+◌, ◌-◌, length, drop, reverse}
 use Rattle.shape_exact.specs.Reading.{vertex}
 use Rattle.shape_exact.proofs.read.backwards.Given as goal
 

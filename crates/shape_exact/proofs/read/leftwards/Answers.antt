@@ -1,4 +1,4 @@
-use Rattle.std.proofs.Common.{◌≡◌, sym, subst, ap, ◌∙◌, List}
+use Rattle.std.proofs.Common.{sym, subst, ap, ◌∙◌, List}
 use Rattle.std.specs.List.{All}
 use Rattle.shape_exact.specs.declared.point.Point.{Point}
 use Rattle.shape_exact.specs.Shapes.{shifted}

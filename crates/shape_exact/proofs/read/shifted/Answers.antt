@@ -12,6 +12,7 @@ moved_back-requires-clause-corner c =
     at c.args.points.now c.lower_corner.result c.requires.some c.requires.near c.lower_corner.ensures.x c.lower_corner.ensures.y
   where
     at : (vs : List Point) (corner : Point) → 1 ≤ length vs → All (IsWithin 1000) vs → corner.x ≡ least (λ p. p.x) vs → corner.y ≡ least (λ p. p.y) vs → IsWithin 1000 corner
-    at vs corner some near x y =
-        (subst (λ (z : ℤ). unsigned_abs z ≤ 1000) (sym x) (least_near (λ p. p.x) vs some (λ k d l. (near k d l).0)),
-         subst (λ (z : ℤ). unsigned_abs z ≤ 1000) (sym y) (least_near (λ p. p.y) vs some (λ k d l. (near k d l).1)))
+    at vs corner some near x y = (
+      subst (λ (z : ℤ). unsigned_abs z ≤ 1000) (sym x) (least_near (λ p. p.x) vs some (λ k d l. (near k d l).0)),
+      subst (λ (z : ℤ). unsigned_abs z ≤ 1000) (sym y) (least_near (λ p. p.y) vs some (λ k d l. (near k d l).1)),
+    )

@@ -1,4 +1,4 @@
-use Rattle.std.proofs.Common.{◌≡◌, ◌∙◌, List, ap, sym, subst, Ok}
+use Rattle.std.proofs.Common.{◌∙◌, List, ap, sym, subst, Ok}
 use Rattle.shape_exact.specs.declared.point.Point.{Point}
 use Rattle.shape_exact.specs.Shapes.{IsShape}
 use Rattle.shape_exact.proofs.FaultLaws.{too_few, too_many, far, equal, flat, other, good, footprint, are_near}
