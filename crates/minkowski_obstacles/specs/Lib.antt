@@ -1,0 +1,4 @@
+pub mod Sums
+pub mod Pairs
+pub mod Stretches
+pub mod Obstacles
