@@ -5,6 +5,7 @@ use Rattle.std.specs.List.{All, Any, list_all}
 use Rattle.std.proofs.lemmas.Int.{ints}
 use Rattle.shape_exact.specs.declared.point.Point.{Point}
 use Rattle.shape_exact.specs.Shapes.{Spot, IsShape, AreApart, edges, cross, side_of, is_inside}
+use Rattle.shape_exact.specs.Cells.{moved_spot}
 use Rattle.shape_exact.specs.Separation.{HasSeparatingEdge, EachEdgeSees, moved, way}
 use Rattle.shape_exact.proofs.RingLaws.{ring, linear}
 use Rattle.shape_exact.proofs.Plane.{Mark, Edge, side, rim, Every, Some_of, mark_of, Inside}
@@ -13,6 +14,7 @@ use Rattle.shape_exact.proofs.LoopLaws.{separated}
 use Rattle.shape_exact.proofs.MeetLaws.{Seen, meet}
 use Rattle.shape_exact.proofs.SumLaws.{shift, shift_edge, rim-shift, some_then, every_map}
 use Rattle.shape_exact.proofs.MoveLaws.{convex_shifted, seen_shifted, some_map}
+use Rattle.shape_exact.proofs.CellLaws.{list_all-agree}
 use Rattle.shape_exact.proofs.BridgeLaws.{pair, edges-rim, every_edge, some_edge, every_from_All, some_from_Any, map_every, convex_from, thick_from}
 use lib.IntN.{ℤ, pos, negsuc, ◌+ℤ◌, ◌-ℤ◌, ◌*ℤ◌}
 use lib.Signed.{◌<ℤ◌, ◌≤ℤ◌}
@@ -146,3 +148,18 @@ edge_as a b c d v w e f g h = subst (λ w. HasSeparatingEdge c d w) g (subst (λ
 
 pub sees_as : (a b c d : List Point) (v w : Point) → a ≡ c → b ≡ d → v ≡ w → EachEdgeSees a b v → EachEdgeSees c d w
 sees_as a b c d v w e f g h = subst (λ w. EachEdgeSees c d w) g (subst (λ d. EachEdgeSees c d v) f (subst (λ c. EachEdgeSees c b v) e h))
+
+-- ---- a shift
+together : (v a x z n : ℤ) → (z +ℤ n *ℤ x) -ℤ n *ℤ (v +ℤ (a +ℤ x)) ≡ z -ℤ n *ℤ (v +ℤ a)
+together v a x z n = simp ring (omega (arith, linear))
+
+side-moved : (a b at by : Point) (s : Spot) → side_of a b (moved by at) (moved_spot by s) ≡ side_of a b at s
+side-moved a b at by s =
+    ap (λ (k : ℤ). (b.x -ℤ a.x) *ℤ k -ℤ (b.y -ℤ a.y) *ℤ ((s.x +ℤ pos s.n *ℤ by.x) -ℤ pos s.n *ℤ (a.x +ℤ (at.x +ℤ by.x)))) (together a.y at.y by.y s.y (pos s.n))
+    ∙ ap (λ (k : ℤ). (b.x -ℤ a.x) *ℤ (s.y -ℤ pos s.n *ℤ (a.y +ℤ at.y)) -ℤ (b.y -ℤ a.y) *ℤ k) (together a.x at.x by.x s.x (pos s.n))
+
+-- what is strictly inside stays so when shape and spot are shifted together
+pub inside-moved : (vs : List Point) (at by : Point) (s : Spot) → is_inside vs (moved by at) (moved_spot by s) ≡ is_inside vs at s
+inside-moved vs at by s =
+    list_all-agree (λ e. int_lt (pos 0) (side_of e.0 e.1 (moved by at) (moved_spot by s))) (λ e. int_lt (pos 0) (side_of e.0 e.1 at s)) (edges vs)
+    (λ e. ap (int_lt (pos 0)) (side-moved e.0 e.1 at by s))

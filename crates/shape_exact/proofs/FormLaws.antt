@@ -6,10 +6,10 @@ use Rattle.std.proofs.lemmas.Int.{ints, fold-int_min_bounds, fold-int_max_reache
 use Rattle.std.proofs.lemmas.List.{length-map, get_or-map}
 use Rattle.std.proofs.lemmas.List.Elements.{All-nil, All-cons, All-head, All-tail, All-map, All-weaker, All-contains}
 use Rattle.shape_exact.specs.declared.point.Point.{Point}
-use Rattle.shape_exact.specs.Shapes.{IsShape, edges, cross, least, greatest, turned, reach_y}
+use Rattle.shape_exact.specs.Shapes.{reach_x, cells, IsShape, edges, cross, least, greatest, turned, reach_y}
 use Rattle.shape_exact.specs.Separation.{IsWithin}
 use Rattle.shape_exact.proofs.RingLaws.{ring, linear}
-use Rattle.shape_exact.proofs.TurnLaws.{IsNormal, rot, rot_both, edges-rot, high_y, turn_is, rot-normal}
+use Rattle.shape_exact.proofs.TurnLaws.{turns_keep, rot-reach_x, rot-reach_y, IsNormal, rot, rot_both, edges-rot, high_y, turn_is, rot-normal}
 
 -- ---- lists
 pub Any-map : {X Y : Type 0} (P : Y → Type 0) (f : X → Y) (xs : List X) → Any (λ x. P (f x)) xs → Any P (map f xs)
@@ -147,3 +147,44 @@ not_low vs h s e = plain h (reach_y vs) (e ∙ high_y vs (normal vs s))
   where
     plain : (h : ℤ) (n : ℕ) → h ≡ pos n → pos 0 ≤ℤ h
     plain h n e = omega (arith, ints)
+
+-- each turn keeps the cells
+pub cells-turned : (q : ℕ) (vs : List Point) → IsShape vs → cells (turned q vs) ≡ cells vs
+cells-turned q vs s = (turns_keep q vs (normal vs s)).1
+
+-- ---- four quarter turns
+four_at : (w h x y : ℤ) → (w -ℤ (w -ℤ x) ≡ x) × (h -ℤ (h -ℤ y) ≡ y)
+four_at w h x y = (omega (arith, linear), omega (arith, linear))
+
+four_rots : (w h : ℕ) (vs : List Point) → map (rot w) (map (rot h) (map (rot w) (map (rot h) vs))) ≡ vs
+four_rots w h [] = refl
+four_rots w h (v ∷ vs) =
+    let e = four_at (pos w) (pos h) v.x v.y in
+    ap (λ (u : Point). u ∷ map (rot w) (map (rot h) (map (rot w) (map (rot h) vs)))) (ap (λ (x : ℤ). record { x = x; y = pos h -ℤ (pos h -ℤ v.y) }) e.0 ∙ ap (λ (y : ℤ). record { x = v.x; y = y }) e.1)
+    ∙ ap (λ (us : List Point). v ∷ us) (four_rots w h vs)
+
+-- two quarter turns, within the height and then within the width
+two_turns : (vs : List Point) → IsShape vs → (turned 2 vs ≡ map (rot (reach_x vs)) (map (rot (reach_y vs)) vs)) × (reach_y (turned 2 vs) ≡ reach_y vs) × (reach_x (turned 2 vs) ≡ reach_x vs)
+two_turns vs s =
+    let one = quarter_is vs s in
+    let t = shape-rot vs s in
+    let m = normal vs s in
+    let u = map (rot (reach_y vs)) vs in
+    let e : turned 2 vs ≡ map (rot (reach_y u)) u = ap (turned 1) one ∙ quarter_is u t in
+    let x = rot-reach_x vs m in
+    let y = rot-reach_y vs m in
+    let v = map (rot (reach_y u)) u in (
+      e ∙ ap (λ k. map (rot k) u) y,
+      ap reach_y e ∙ rot-reach_y u (normal u t) ∙ x,
+      ap reach_x e ∙ rot-reach_x u (normal u t) ∙ y,
+    )
+
+-- four quarter turns give the shape back
+pub four_turns : (vs : List Point) → IsShape vs → turned 4 vs ≡ vs
+four_turns vs s =
+    let a = two_turns vs s in
+    let b = two_turns (turned 2 vs) (shape-turned 2 vs s) in
+    b.0 ∙ ap (λ w. map (rot w) (map (rot (reach_y (turned 2 vs))) (turned 2 vs))) a.2
+    ∙ ap (λ h. map (rot (reach_x vs)) (map (rot h) (turned 2 vs))) a.1
+    ∙ ap (λ (us : List Point). map (rot (reach_x vs)) (map (rot (reach_y vs)) us)) a.0
+    ∙ four_rots (reach_x vs) (reach_y vs) vs

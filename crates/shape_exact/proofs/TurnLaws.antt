@@ -197,7 +197,7 @@ rot-normal vs n = record {
       ∙ ap (least (λ p. p.x)) (sym n.is) ∙ n.low_x;
 }
 
-rot-reach_x : (vs : List Point) → IsNormal vs → reach_x (map (rot (reach_y vs)) vs) ≡ reach_y vs
+pub rot-reach_x : (vs : List Point) → IsNormal vs → reach_x (map (rot (reach_y vs)) vs) ≡ reach_y vs
 rot-reach_x vs n =
     ap unsigned_abs
     (ap (λ ws. greatest (λ p. p.x) (map (rot (reach_y vs)) ws)) n.is
@@ -205,7 +205,7 @@ rot-reach_x vs n =
     ∙ ap (λ ws. pos (reach_y vs) -ℤ least (λ p. p.y) ws) (sym n.is) ∙ ap (λ z. pos (reach_y vs) -ℤ z) n.low_y
     ∙ (let e : (pos (reach_y vs) -ℤ pos 0) ≡ pos (reach_y vs) = omega (arith, ints) in e))
 
-rot-reach_y : (vs : List Point) → IsNormal vs → reach_y (map (rot (reach_y vs)) vs) ≡ reach_x vs
+pub rot-reach_y : (vs : List Point) → IsNormal vs → reach_y (map (rot (reach_y vs)) vs) ≡ reach_x vs
 rot-reach_y vs n =
     ap unsigned_abs
     (ap (λ ws. greatest (λ p. p.y) (map (rot (reach_y vs)) ws)) n.is

@@ -10,6 +10,7 @@ mod cells;
 mod corner;
 mod day_list;
 mod faults;
+mod laws;
 mod memory;
 mod name;
 mod plate;
@@ -22,6 +23,9 @@ mod yard;
 
 pub use block::Block;
 pub use day_list::DayList;
+pub use laws::{
+    apart_either_way, apart_shares_no_cell, four_turns_return, shift_keeps_inside, turn_keeps_cells,
+};
 pub use memory::NoMemory;
 pub use name::Name;
 pub use plate::Plate;
