@@ -5,3 +5,4 @@ pub mod FlatLaws
 pub mod GridLaws
 pub mod StandLaws
 pub mod ReadLaws
+pub mod TableLaws

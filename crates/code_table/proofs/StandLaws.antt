@@ -13,7 +13,7 @@ use Rattle.shape_exact.specs.Each.{when, for_some, sum_below}
 use Rattle.shape_exact.proofs.EachLaws.{length-each, get-each, sum-front_le}
 use Rattle.code_table.specs.declared.placement.Placement.{Placement}
 use Rattle.code_table.specs.Placements.{placed, grid_of, placements_of, placements}
-use Rattle.code_table.specs.Stands.{stand_at, nth_stand, stands}
+use Rattle.code_table.specs.Stands.{sum_to, stand_at, nth_stand, stands}
 use Rattle.code_table.proofs.FlatLaws.{placements-stands}
 
 -- the end of a stand, where it has one
@@ -64,10 +64,7 @@ stand-ends yard block start p turn plate end l at is =
 pub placements-of : (yard : PlainYard) (b : ℕ) (block : Block) → slice_get yard.blocks b ≡ Some block → placements yard b ≡ placements_of yard block
 placements-of yard b block is = ap (λ o. for_some o (placements_of yard)) is
 
--- how many placements the first stands have
-abbrev pub sum_to : PlainYard → Block → ℕ → ℕ
-sum_to yard block k = sum_below k (λ k. length (nth_stand yard block k))
-
+-- the sum over all stands is the number of placements
 pub length-placements : (yard : PlainYard) (block : Block) → length (placements_of yard block) ≡ sum_to yard block (stands yard)
 length-placements yard block =
     ap length (placements-stands yard block) ∙ length-each (stands yard) (nth_stand yard block)

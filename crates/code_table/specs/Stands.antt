@@ -5,7 +5,7 @@ use Rattle.shape_exact.specs.declared.plate.Plate.{Plate}
 use Rattle.shape_exact.specs.declared.block.Block.{Block}
 use Rattle.shape_exact.specs.Shapes.{turned, reach_x, reach_y}
 use Rattle.plate_calendar.specs.Calendars.{open_days, end_of}
-use Rattle.shape_exact.specs.Each.{when, for_some}
+use Rattle.shape_exact.specs.Each.{when, for_some, sum_below}
 use Rattle.code_table.specs.declared.placement.Placement.{Placement}
 use Rattle.code_table.specs.Placements.{placed, grid_of}
 
@@ -35,6 +35,10 @@ stand_turn yard k = k % (length yard.plates * 4) % 4
 -- the placements of a block that have the k-th stand
 unfoldable pub nth_stand : PlainYard → Block → ℕ → List Placement
 nth_stand yard block k = stand_at yard block (stand_start yard k) (stand_plate yard k) (stand_turn yard k)
+
+-- how many placements of a block the first stands have
+abbrev pub sum_to : PlainYard → Block → ℕ → ℕ
+sum_to yard block k = sum_below k (λ k. length (nth_stand yard block k))
 
 -- a block that starts on a day of a plate, not before its release, ends on a day
 pub record EndsOn (yard : PlainYard) (block : Block) (start p end : ℕ) : Type 0 where

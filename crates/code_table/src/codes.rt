@@ -1,34 +1,111 @@
 //! The codes of a yard.
-ghost use Rattle.std.specs.Prelude.{◌≡◌};
+ghost use Rattle.std.specs.Prelude.{◌≡◌, ℕ, ◌≤◌, ◌<◌, length, IfOk, slice_get, Some};
 ghost use Rattle.shape_exact.specs.Yards.{IsYard};
+ghost use Rattle.shape_exact.specs.Shapes.{turned};
+ghost use Rattle.shape_exact.specs.declared.block.Block.{Block};
+ghost use Rattle.shape_exact.specs.declared.plate.Plate.{Plate};
+ghost use Rattle.plate_calendar.specs.Calendars.{open_days};
+ghost use Rattle.code_table.specs.Placements.{placements};
+ghost use Rattle.code_table.specs.Tables.{IsTable};
 
-use shape_exact::Yard;
+use crate::stand::calendars_of;
+use crate::table::{Table, tables_of};
+use arrayvec::ArrayVec;
+use plate_calendar::Calendar;
+use shape_exact::{NoMemory, Shape, Yard};
+use std::alloc::{AllocError, Global};
 use std::marker::Model;
 
 /// The codes of a yard's blocks. Contracts see it as its yard.
 #[derive(Drop)]
 pub struct Codes {
-    yard: Yard,
-    sums: Vec<u32>,
+    pub(crate) yard: Yard,
+    pub(crate) calendars: ArrayVec<Calendar, 8>,
+    pub(crate) tables: Vec<Table>,
 }
 
 impl Model for Codes {
-    ghost use Rattle.std.specs.Prelude.{◌≡◌};
-    ghost use Rattle.shape_exact.specs.Yards.{PlainYard, IsYard};
+    ghost use Rattle.shape_exact.specs.Yards.{PlainYard};
 
     ghost Value = { PlainYard };
 
     ghost view = { λ s. s.yard };
 
-    ghost invariant = { λ s. IsYard s.yard };
+    ghost use Rattle.code_table.specs.Tables.{IsCoded};
+
+    ghost invariant = { λ s. IsCoded s.yard s.calendars.items s.tables.items };
+}
+
+/// A copy of a yard.
+fn copy_of(yard: &Yard) -> Result<Yard, AllocError>
+    ensures { IfOk result (λ y. y ≡ yard.now) }
+{
+    yard.clone()
 }
 
 impl Codes {
+    /// The codes of the yard's blocks. The yard is copied.
+    pub fn new(alloc: Global, yard: &Yard) -> Result<Codes, NoMemory>
+        requires plates { 1 ≤ length yard.now.plates }
+        requires blocks { 1 ≤ length yard.now.blocks }
+        requires few { (b : ℕ) → b < length yard.now.blocks → length (placements yard.now b) ≤ 1048576 }
+        ensures { IfOk result (λ c. c ≡ yard.now) }
+    {
+        let calendars = calendars_of(yard);
+        let tables = tables_of(alloc, yard, calendars.as_slice())?;
+        let yard = copy_of(yard)?;
+        Ok(Codes {
+            yard,
+            calendars,
+            tables,
+        })
+    }
+
     /// The yard whose codes these are.
     pub fn yard(&self) -> &Yard
         ensures value { result.now ≡ self.now }
         ensures limits { IsYard self.now }
+        ensures plates { 1 ≤ length self.now.plates }
+        ensures blocks { 1 ≤ length self.now.blocks }
+        ensures few { (b : ℕ) → length (placements self.now b) ≤ 1048576 }
     {
         &self.yard
+    }
+
+    /// The table of a block.
+    fn table(&self, block: u8) -> &Table
+        requires { block < length self.now.blocks }
+        ensures { (b : Block) → slice_get self.now.blocks block ≡ Some b → IsTable self.now b result.now }
+    {
+        let tables = self.tables.as_slice();
+        &tables[block as usize]
+    }
+
+    /// The calendar of a plate.
+    pub fn calendar(&self, plate: u8) -> &Calendar
+        requires { plate < length self.now.plates }
+        ensures { (p : Plate) → slice_get self.now.plates plate ≡ Some p → result.now ≡ open_days self.now.days p.closed }
+    {
+        let calendars = self.calendars.as_slice();
+        &calendars[plate as usize]
+    }
+
+    /// The shape of a block in a turn.
+    pub fn shape(&self, block: u8, turn: u8) -> &Shape
+        requires block { block < length self.now.blocks }
+        requires turn { turn < 4 }
+        ensures { (b : Block) → slice_get self.now.blocks block ≡ Some b → result.now ≡ turned turn b.shape }
+    {
+        let shapes = self.table(block).shapes.as_slice();
+        &shapes[turn as usize]
+    }
+
+    /// The number of codes of a block.
+    pub fn count(&self, block: u8) -> u32
+        requires { block < length self.now.blocks }
+        ensures value { result ≡ length (placements self.now block) }
+        ensures few { result ≤ 1048576 }
+    {
+        self.table(block).count
     }
 }

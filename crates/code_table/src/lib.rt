@@ -9,6 +9,7 @@ mod count;
 mod grid;
 mod placement;
 mod stand;
+mod table;
 
 pub use codes::Codes;
 pub use count::placement_count;

@@ -2,6 +2,7 @@
 //! then turn.
 ghost use Rattle.std.specs.Prelude.{◌≡◌, ℕ, ◌+◌, ◌*◌, ◌/◌, ◌%◌, ◌≤◌, ◌<◌, List, Some, length, map, slice_get};
 ghost use Rattle.shape_exact.specs.Shapes.{turned};
+ghost use Rattle.shape_exact.specs.Yards.{IsYard};
 ghost use Rattle.plate_calendar.specs.Calendars.{open_days};
 ghost use Rattle.code_table.specs.Stands.{stands, stand_start, stand_plate, stand_turn};
 
@@ -19,7 +20,8 @@ pub(crate) struct Stand {
 
 /// The calendars of the plates.
 pub(crate) fn calendars_of(yard: &Yard) -> ArrayVec<Calendar, 8>
-    ensures { result.items ≡ map (λ p. open_days yard.now.days p.closed) yard.now.plates }
+    ensures value { result.items ≡ map (λ p. open_days yard.now.days p.closed) yard.now.plates }
+    ensures limits { IsYard yard.now }
 {
     let mut calendars = ArrayVec::new();
     let plates = yard.plates();

@@ -1,5 +1,6 @@
+use Rattle.code_table.specs.Stands.{sum_to}
 use Rattle.std.proofs.Common.{◌∙◌, ap, sym, length, arith}
-use Rattle.code_table.proofs.StandLaws.{sum_to, placements-of, length-placements}
+use Rattle.code_table.proofs.StandLaws.{placements-of, length-placements}
 use Rattle.code_table.proofs.ReadLaws.{read_at}
 use Rattle.code_table.proofs.count.placement_count.Goals as goal
 

@@ -1,5 +1,5 @@
 use Rattle.std.proofs.Common.{◌≡◌, ◌≤◌, ◌*◌}
-use Rattle.code_table.proofs.StandLaws.{sum_to}
+use Rattle.code_table.specs.Stands.{sum_to}
 use Rattle.code_table.proofs.count.placement_count.Given as goal
 
 -- the placements of the stands so far

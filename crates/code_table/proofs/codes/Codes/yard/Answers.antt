@@ -1,0 +1,8 @@
+use Rattle.std.proofs.Common.{◌≡◌, ◌≤◌, ℕ, length, subst}
+use Rattle.shape_exact.specs.Yards.{PlainYard}
+use Rattle.code_table.specs.Placements.{placements}
+use Rattle.code_table.proofs.TableLaws.{all_few}
+use Rattle.code_table.proofs.codes.Codes.yard.Goals as goal
+
+pub returns-clause-few : goal.returns-clause-few
+returns-clause-few c = λ b. rw (← c.self.view_is) (all_few _ _ _ b c.self.invariant)
