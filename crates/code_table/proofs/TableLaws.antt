@@ -1,6 +1,6 @@
 -- Tables of blocks, and their sums.
-use Rattle.std.proofs.Common.{◌≡◌, ℕ, zero, suc, ◌+◌, ◌-◌, ◌≤◌, ◌<◌, List, [], ◌∷◌, ◌++◌, length, get_or, Option, Some, None, refl, sym, ap, ◌∙◌, subst, arith, inl, inr, length-append}
-use Rattle.std.specs.Prelude.{slice_get, map}
+use Rattle.std.proofs.Common.{◌≡◌, ℕ, zero, suc, ◌-◌, ◌≤◌, ◌<◌, List, [], ◌∷◌, ◌++◌, length, get_or, Some, refl, sym, ap, ◌∙◌, subst, arith, inl, inr}
+use Rattle.std.specs.Prelude.{slice_get}
 use Rattle.std.proofs.lemmas.Option.{same_Some, none-some, slice_get_past}
 use Rattle.std.proofs.lemmas.Bool.{cases_lt}
 use Rattle.shape_exact.specs.Each.{for_some}
@@ -9,9 +9,9 @@ use Rattle.shape_exact.specs.declared.block.Block.{Block}
 use Rattle.shape_exact.proofs.EachLaws.{get-append_cases}
 use Rattle.code_table.specs.declared.table.Table.{Table}
 use Rattle.code_table.specs.Placements.{placements, placements_of}
-use Rattle.code_table.specs.Stands.{stands, sum_to}
-use Rattle.code_table.specs.Tables.{IsSums, IsTable, AreTables, IsCoded}
-use Rattle.code_table.proofs.StandLaws.{length-placements, placements-of, sum_to-more, sum_to-le}
+use Rattle.code_table.specs.Stands.{stands}
+use Rattle.code_table.specs.Tables.{IsSums, IsTable, IsCoded}
+use Rattle.code_table.proofs.StandLaws.{length-placements, placements-of}
 use Rattle.code_table.proofs.ReadLaws.{some_at}
 
 -- each block so far has its table

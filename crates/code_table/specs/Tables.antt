@@ -1,7 +1,7 @@
 -- What a table of codes keeps of a yard and its blocks.
 use Rattle.std.specs.Prelude.{◌≡◌, ℕ, ◌+◌, ◌≤◌, ◌<◌, List, Some, length, map, slice_get, slice_index}
 use Rattle.shape_exact.specs.Yards.{PlainYard, IsYard}
-use Rattle.shape_exact.specs.Shapes.{turned}
+use Rattle.shape_exact.specs.Shapes.{turned, cells}
 use Rattle.shape_exact.specs.declared.block.Block.{Block}
 use Rattle.plate_calendar.specs.Calendars.{open_days}
 use Rattle.code_table.specs.declared.table.Table.{Table}
@@ -13,10 +13,11 @@ pub record IsSums (yard : PlainYard) (block : Block) (sums : List ℕ) : Type 0 
   pub len : length sums ≡ stands yard + 1
   pub counted : (k : ℕ) → k ≤ stands yard → slice_index sums k ≡ sum_to yard block k
 
--- the table of a block: its shape in the four turns, its sums and its number of placements
+-- the table of a block: its shape in the four turns, its cells, its sums and its number of placements
 pub record IsTable (yard : PlainYard) (block : Block) (t : Table) : Type 0 where
   pub turns : length t.shapes.items ≡ 4
   pub shapes : (q : ℕ) → q < 4 → slice_get t.shapes.items q ≡ Some (turned q block.shape)
+  pub cells_are : t.cells ≡ cells block.shape
   pub sums : IsSums yard block t.sums.items
   pub count : t.count ≡ length (placements_of yard block)
   pub few : length (placements_of yard block) ≤ 1048576

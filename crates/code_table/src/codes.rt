@@ -1,7 +1,7 @@
 //! The codes of a yard.
 ghost use Rattle.std.specs.Prelude.{◌≡◌, ℕ, ◌≤◌, ◌<◌, length, IfOk, slice_get, Some};
 ghost use Rattle.shape_exact.specs.Yards.{IsYard};
-ghost use Rattle.shape_exact.specs.Shapes.{turned};
+ghost use Rattle.shape_exact.specs.Shapes.{turned, cells};
 ghost use Rattle.shape_exact.specs.declared.block.Block.{Block};
 ghost use Rattle.shape_exact.specs.declared.plate.Plate.{Plate};
 ghost use Rattle.plate_calendar.specs.Calendars.{open_days};
@@ -98,6 +98,14 @@ impl Codes {
     {
         let shapes = self.table(block).shapes.as_slice();
         &shapes[turn as usize]
+    }
+
+    /// The number of unit cells of a block's shape.
+    pub fn cells(&self, block: u8) -> u32
+        requires { block < length self.now.blocks }
+        ensures { (b : Block) → slice_get self.now.blocks block ≡ Some b → result ≡ cells b.shape }
+    {
+        self.table(block).cells
     }
 
     /// The number of codes of a block.

@@ -13,11 +13,12 @@ use plate_calendar::Calendar;
 use shape_exact::{Block, NoMemory, Shape, Yard};
 use std::alloc::Global;
 
-/// A block's shape in its four turns; for each stand, how many placements the stands before it have; and the number of
-/// its placements.
+/// A block's shape in its four turns and the number of its cells; for each stand, how many placements the stands before
+/// it have; and the number of its placements.
 #[derive(Drop)]
 pub(crate) struct Table {
     pub(crate) shapes: ArrayVec<Shape, 4>,
+    pub(crate) cells: u32,
     pub(crate) sums: Vec<u32>,
     pub(crate) count: u32,
 }
@@ -73,6 +74,7 @@ fn table_of(
     let count = last_of(sums.as_slice());
     Ok(Table {
         shapes,
+        cells: block.shape.cells(),
         sums,
         count,
     })

@@ -1,4 +1,4 @@
-use Rattle.std.proofs.Common.{◌≡◌, ◌+◌, ◌≤◌, ◌<◌, arith}
+use Rattle.std.proofs.Common.{◌+◌, ◌<◌, arith}
 use Rattle.code_table.proofs.StandLaws.{sum_to-more, sum_to-le}
 use Rattle.code_table.proofs.table.sums_of.Goals as goal
 

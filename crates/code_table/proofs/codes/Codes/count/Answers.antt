@@ -1,4 +1,4 @@
-use Rattle.std.proofs.Common.{◌≡◌, ◌≤◌, arith}
+use Rattle.std.proofs.Common.{arith}
 use Rattle.code_table.proofs.ReadLaws.{some_at}
 use Rattle.code_table.proofs.codes.Codes.count.Goals as goal
 

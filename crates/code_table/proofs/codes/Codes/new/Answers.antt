@@ -1,4 +1,4 @@
-use Rattle.std.proofs.Common.{◌≡◌, sym, subst}
+use Rattle.std.proofs.Common.{sym, subst}
 use Rattle.shape_exact.specs.Yards.{PlainYard}
 use Rattle.code_table.specs.Tables.{IsCoded}
 use Rattle.code_table.proofs.codes.Codes.new.Goals as goal

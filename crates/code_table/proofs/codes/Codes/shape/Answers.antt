@@ -1,4 +1,4 @@
-use Rattle.std.proofs.Common.{◌≡◌, ◌<◌, ◌∙◌, ap, sym, length, arith}
+use Rattle.std.proofs.Common.{◌<◌, ◌∙◌, ap, sym, length, arith}
 use Rattle.std.proofs.lemmas.Option.{same_Some}
 use Rattle.code_table.proofs.ReadLaws.{some_at, read_at}
 use Rattle.code_table.proofs.codes.Codes.shape.Goals as goal

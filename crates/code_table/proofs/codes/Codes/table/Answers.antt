@@ -1,6 +1,6 @@
-use Rattle.std.proofs.Common.{◌≡◌, ◌<◌, ◌∙◌, ap, sym, subst, length, arith}
+use Rattle.std.proofs.Common.{◌<◌, subst, length, arith}
 use Rattle.shape_exact.specs.Yards.{PlainYard}
-use Rattle.code_table.specs.Tables.{IsTable, IsCoded}
+use Rattle.code_table.specs.Tables.{IsCoded}
 use Rattle.code_table.proofs.ReadLaws.{read_at}
 use Rattle.code_table.proofs.codes.Codes.table.Goals as goal
 

@@ -1,6 +1,3 @@
-use Rattle.std.proofs.Common.{◌≡◌, ◌≤◌, ℕ, length, subst}
-use Rattle.shape_exact.specs.Yards.{PlainYard}
-use Rattle.code_table.specs.Placements.{placements}
 use Rattle.code_table.proofs.TableLaws.{all_few}
 use Rattle.code_table.proofs.codes.Codes.yard.Goals as goal
 
