@@ -12,3 +12,16 @@ pub mod ClashLaws
 pub mod ExistLaws
 pub mod JobLaws
 pub mod BehindLaws
+pub mod HalvingLaws
+pub mod BitLaws
+pub mod FrontLaws
+pub mod RegionPartLaws
+pub mod MultipleLaws
+pub mod BitStepLaws
+pub mod PackLaws
+pub mod YardLaws
+pub mod LimitLaws
+pub mod ReportLaws
+pub mod CoverLaws
+pub mod Rows
+pub mod RegionBoxLaws

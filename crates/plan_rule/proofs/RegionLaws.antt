@@ -4,33 +4,11 @@ use Rattle.std.specs.Prelude.{if◌then◌else◌}
 use Rattle.std.proofs.lemmas.Bool.{cases_lt, leb-true, le-leb, lt-leb, true≢false, false≢true}
 use Rattle.std.proofs.Math.Nat.{pow-suc}
 use Rattle.plan_rule.specs.Paths.{halvings, all_halvings, number_of}
+use Rattle.plan_rule.specs.Fronts.{AreCodes, InRange, tail_of, IsPart}
 use Rattle.plan_rule.proofs.PathLaws.{number-below}
 
--- codes for the blocks that are left, below their counts
-abbrev pub AreCodes : List ℕ → List ℕ → Type 0
-AreCodes [] [] = Unit {0}
-AreCodes [] (code ∷ q) = ⊥
-AreCodes (count ∷ counts) [] = ⊥
-AreCodes (count ∷ counts) (code ∷ q) = (code < count) × AreCodes counts q
-
--- the next block's code is in the range, where a block is left
-abbrev pub InRange : ℕ → ℕ → List ℕ → Type 0
-InRange lo hi [] = Unit {0}
-InRange lo hi (code ∷ q) = (lo ≤ code) × (code < hi)
-
--- the bits that are left
-abbrev pub tail_of : ℕ → ℕ → ℕ → ℕ → List ℕ → List ℕ → List Bool
-tail_of n m lo hi [] q = []
-tail_of n m lo hi (count ∷ counts) [] = []
-tail_of n m lo hi (count ∷ counts) (code ∷ q) = halvings m lo hi code ++ all_halvings n counts q
-
--- the plans of an interval are those with this front and a next code in this range; `value` is the path number
-pub record IsPart (value : List ℕ → ℕ) (all : List ℕ) (n front w : ℕ) (exact : List ℕ) (m lo hi : ℕ) (counts : List ℕ) : Type 0 where
-  pub inside : (q : List ℕ) → AreCodes counts q → InRange lo hi q → value (exact ++ q) ≡ front + number_of w (tail_of n m lo hi counts q)
-  pub only : (p : List ℕ) → AreCodes all p → front ≤ value p → value p < front + 2 ^ w → (q : List ℕ) × (p ≡ exact ++ q) × AreCodes counts q × InRange lo hi q
-
 -- the bits of one halving, and of the rest
-halved : (stop : Bool) (u : Bool) (w : ℕ) (us xs : List Bool) → (stop ≡ true → ⊥)
+pub halved : (stop : Bool) (u : Bool) (w : ℕ) (us xs : List Bool) → (stop ≡ true → ⊥)
     → number_of (suc w) ((if stop then [] else u ∷ us) ++ xs) ≡ (if u then 2 ^ w else 0) + number_of w (us ++ xs)
 halved true u w us xs go = absurd (go refl)
 halved false u w us xs go = refl
@@ -39,13 +17,13 @@ halved false u w us xs go = refl
 abbrev pub middle : ℕ → ℕ → ℕ
 middle lo hi = lo + (hi - lo) / 2
 
-lower_bits : (u : Bool) (w m lo hi code : ℕ) (xs : List Bool) → u ≡ false
+pub lower_bits : (u : Bool) (w m lo hi code : ℕ) (xs : List Bool) → u ≡ false
     → (if u then 2 ^ w else 0) + number_of w (halvings m (if u then middle lo hi else lo) (if u then hi else middle lo hi) code ++ xs)
     ≡ number_of w (halvings m lo (middle lo hi) code ++ xs)
 lower_bits true w m lo hi code xs e = absurd (true≢false e)
 lower_bits false w m lo hi code xs e = omega arith
 
-upper_bits : (u : Bool) (w m lo hi code : ℕ) (xs : List Bool) → u ≡ true
+pub upper_bits : (u : Bool) (w m lo hi code : ℕ) (xs : List Bool) → u ≡ true
     → (if u then 2 ^ w else 0) + number_of w (halvings m (if u then middle lo hi else lo) (if u then hi else middle lo hi) code ++ xs)
     ≡ 2 ^ w + number_of w (halvings m (middle lo hi) hi code ++ xs)
 upper_bits true w m lo hi code xs e = refl
@@ -117,7 +95,7 @@ upper_half value all n front w exact m lo hi count counts part wide = record {
       | inr above ↦ (above, range.1)
     ]
 
-one_left : (n lo hi code : ℕ) → hi ≤ lo + 1 → halvings n lo hi code ≡ []
+pub one_left : (n lo hi code : ℕ) → hi ≤ lo + 1 → halvings n lo hi code ≡ []
 one_left zero lo hi code l = refl
 one_left (suc n) lo hi code l = stopped (leb (hi - lo) 1) _ (le-leb (hi - lo) 1 (omega arith))
   where
@@ -129,6 +107,12 @@ one_left (suc n) lo hi code l = stopped (leb (hi - lo) 1) _ (le-leb (hi - lo) 1 
 abbrev pub first_count : List ℕ → ℕ
 first_count [] = 0
 first_count (count ∷ counts) = count
+
+-- each code is in the whole range
+pub whole : (counts q : List ℕ) → AreCodes counts q → InRange 0 (first_count counts) q
+whole counts [] codes = tt
+whole [] (code ∷ q) codes = absurd codes
+whole (count ∷ counts) (code ∷ q) codes = (omega arith, codes.0)
 
 -- a range of one code joins the front, and the next block has its whole range
 pub settled : (value : List ℕ → ℕ) (all : List ℕ) (n front w : ℕ) (exact : List ℕ) (m lo hi count : ℕ) (counts : List ℕ)
@@ -147,11 +131,6 @@ settled value all n front w exact m lo hi count counts part one exists = record 
     rest_bits [] q codes = refl
     rest_bits (count ∷ counts) [] codes = absurd codes
     rest_bits (count ∷ counts) (code ∷ q) codes = refl
-
-    whole : (counts q : List ℕ) → AreCodes counts q → InRange 0 (first_count counts) q
-    whole counts [] codes = tt
-    whole [] (code ∷ q) codes = absurd codes
-    whole (count ∷ counts) (code ∷ q) codes = (omega arith, codes.0)
 
     only_one : (p q : List ℕ) → p ≡ exact ++ q → AreCodes (count ∷ counts) q → InRange lo hi q
         → (r : List ℕ) × (p ≡ (exact ++ lo ∷ []) ++ r) × AreCodes counts r × InRange 0 (first_count counts) r

@@ -1,13 +1,23 @@
 //! Plans: one code for each block, their clashes, their order and the best one; plans as numbers, and boxes of plans.
 #![tactic(auto)]
 
+mod counts;
 mod job;
+mod laws;
 mod literal;
 mod order;
+mod path_number;
 mod plan;
 mod plan_box;
+mod region;
 
 pub use job::{Job, halves};
+pub use laws::{
+    base_is_sound, energy_is_sound, fit_is_sound, keys_are_small, keys_follow_order,
+    paths_follow_codes, region_box_holds_region, reports_give_best,
+};
 pub use literal::Literal;
+pub use path_number::path;
 pub use plan::Plan;
 pub use plan_box::PlanBox;
+pub use region::{Prefix, Region, region_of};

@@ -1,9 +1,13 @@
 //! Boxes of plans.
-ghost use Rattle.std.specs.Prelude.{◌≡◌, ◌↔◌, IsTrue, IfOk, length};
-ghost use Rattle.plan_rule.specs.Boxes.{AreLiterals, AreAmong, Holds};
+ghost use Rattle.std.specs.Prelude.{◌≡◌, ◌≤◌, ◌<◌, ◌↔◌, ℕ, IsTrue, IfOk, length, slice_index_or};
+ghost use Rattle.plan_rule.specs.declared.literal.Literal.{Literal};
+ghost use Rattle.plan_rule.specs.Yards.{choices};
+ghost use Rattle.plan_rule.specs.Boxes.{AreAmong, AreLiterals, Covers, Holds, IsWhole};
 ghost use Rattle.plan_rule.specs.Bounds.{IsBehindOn};
 
+use crate::counts::count_of;
 use crate::{Literal, Plan};
+use code_table::Codes;
 use shape_exact::NoMemory;
 use std::alloc::Global;
 use std::marker::Model;
@@ -66,6 +70,21 @@ impl PlanBox {
         true
     }
 
+    /// Whether each literal of the box holds the other box's literal on the same block, or is whole.
+    pub fn contains(&self, codes: &Codes, other: &PlanBox) -> bool
+        ensures { IsTrue result ↔ Covers (choices codes.now) self.now other.now }
+    {
+        let others = other.literals();
+        let mut at = 0;
+        for l in self.literals() {
+            at = place_from(others, at, l.block);
+            if !is_whole(codes, *l) && !(at < others.len() && l.takes(others[at])) {
+                return false;
+            }
+        }
+        true
+    }
+
     /// Whether every plan in the box is this plan or, as a list of codes, after it.
     pub fn behind(&self, plan: &Plan) -> bool
         requires { AreAmong (length plan.now) self.now }
@@ -85,4 +104,25 @@ impl PlanBox {
         }
         self.literals().len() == codes.len()
     }
+}
+
+/// Whether the literal has each code of its block.
+fn is_whole(codes: &Codes, l: Literal) -> bool
+    ensures { IsTrue result ↔ IsWhole (choices codes.now) l }
+{
+    l.lo == 0 && l.hi == count_of(codes, usize::from(l.block))
+}
+
+/// The place of the first literal, from a place on, whose block is not below this one.
+fn place_from(list: &[Literal], from: usize, block: u8) -> usize
+    requires { from ≤ length list.now }
+    ensures within { (from ≤ result) × (result ≤ length list.now) }
+    ensures before { (k : ℕ) (d : Literal) → from ≤ k → k < result → (slice_index_or list.now k d).block < block }
+    ensures at { (d : Literal) → result < length list.now → block ≤ (slice_index_or list.now result d).block }
+{
+    let mut at = from;
+    while at < list.len() && list[at].block < block {
+        at += 1;
+    }
+    at
 }

@@ -1,0 +1,108 @@
+-- Path numbers, keys, jobs and boxes of small yards.
+use Rattle.std.proofs.Common.{◌≡◌, ℕ, List, [], ◌∷◌, Some, None, true, false, refl}
+use Rattle.std.specs.Prelude.{pos}
+use Rattle.shape_exact.specs.Yards.{PlainYard}
+use Rattle.shape_exact.specs.declared.block.Block.{Block}
+use Rattle.shape_exact.specs.declared.point.Point.{Point}
+use Rattle.plan_rule.specs.declared.job.Job.{Job}
+use Rattle.plan_rule.specs.Choices.{Choices}
+use Rattle.plan_rule.specs.Plans.{total}
+use Rattle.plan_rule.specs.Paths.{path, key}
+use Rattle.plan_rule.specs.Jobs.{word, lower, upper}
+use Rattle.plan_rule.specs.Boxes.{exact, fixed_code}
+use Rattle.plan_rule.specs.Yards.{choices}
+
+abbrev at : ℕ → ℕ → Point
+at x y = record { x = pos x; y = pos y }
+
+-- a block of two days, due on day 1, with weight 5
+abbrev block : List ℕ → Block
+block name = record {
+  name = name;
+  shape = at 0 0 ∷ at 3 0 ∷ at 3 3 ∷ at 0 3 ∷ [];
+  turns = true ∷ false ∷ false ∷ false ∷ [];
+  duration = 2;
+  release = 0;
+  due = 1;
+  weight = 5;
+}
+
+-- two squares of side 3 on a plate of 4 by 3, in 10 days
+abbrev squares : PlainYard
+squares = record {
+  days = 10;
+  plates = record { name = 80 ∷ []; width = 4; height = 3; pitch = 1; closed = [] } ∷ [];
+  blocks = block (65 ∷ []) ∷ block (66 ∷ []) ∷ [];
+}
+
+eighteen_codes_each : (choices squares).counts ≡ 18 ∷ 18 ∷ []
+unfolding choices
+eighteen_codes_each = refl
+
+second_waits : total (choices squares) (0 ∷ 4 ∷ []) ≡ 10
+unfolding choices
+second_waits = refl
+
+path_of_second_waits : path (choices squares) (0 ∷ 4 ∷ []) ≡ 67108864
+unfolding choices path
+path_of_second_waits = refl
+
+key_of_second_waits : key (choices squares) (0 ∷ 4 ∷ []) ≡ 43016781824
+unfolding choices path
+key_of_second_waits = refl
+
+key_of_first_waits : key (choices squares) (4 ∷ 0 ∷ []) ≡ 44023414784
+unfolding choices path
+key_of_first_waits = refl
+
+-- blocks with so many codes, and nothing else to tell them by
+abbrev of_counts : List ℕ → Choices
+of_counts counts = record {
+  counts = counts;
+  cost = λ b code. 0;
+  Clash = λ a x b y. ⊥;
+  days = 1;
+  release = λ b. 0;
+  due = λ b. 0;
+  weight = λ b. 0;
+  work = λ b. 0;
+  capacity = λ first last. 0;
+  taken = λ first last b code. 0;
+}
+
+two_triangles : path (of_counts (2 ∷ 2 ∷ [])) (0 ∷ 1 ∷ []) ≡ 1073741824
+unfolding path
+two_triangles = refl
+
+-- a block of one code has no bit
+one_code : path (of_counts (1 ∷ 2 ∷ 1 ∷ 2 ∷ [])) (0 ∷ 0 ∷ 0 ∷ 1 ∷ []) ≡ path (of_counts (2 ∷ 2 ∷ [])) (0 ∷ 1 ∷ [])
+unfolding path
+one_code = refl
+
+-- of seven blocks of 32 codes the seventh has two bits left, so different plans share a path number
+abbrev seven : Choices
+seven = of_counts (32 ∷ 32 ∷ 32 ∷ 32 ∷ 32 ∷ 32 ∷ 32 ∷ [])
+
+bits_run_out : path seven (0 ∷ 0 ∷ 0 ∷ 0 ∷ 0 ∷ 0 ∷ 8 ∷ []) ≡ path seven (0 ∷ 0 ∷ 0 ∷ 0 ∷ 0 ∷ 0 ∷ 15 ∷ [])
+unfolding path
+bits_run_out = refl
+
+last_bit : path seven (0 ∷ 0 ∷ 0 ∷ 0 ∷ 0 ∷ 0 ∷ 8 ∷ []) ≡ 1
+unfolding path
+last_bit = refl
+
+abbrev root : Job
+root = record { front = 0; length = 0 }
+
+lower_half_of_root : word (lower root) ≡ 1
+lower_half_of_root = refl
+
+upper_half_of_root : word (upper root) ≡ 137438953473
+upper_half_of_root = refl
+
+-- a box fixes a block by a literal of one code alone
+fixes_one : fixed_code (exact 0 7 ∷ record { block = 2; lo = 3; hi = 5 } ∷ []) 0 ≡ Some 7
+fixes_one = refl
+
+fixes_no_range : fixed_code (exact 0 7 ∷ record { block = 2; lo = 3; hi = 5 } ∷ []) 2 ≡ None
+fixes_no_range = refl
