@@ -1,1 +1,4 @@
 pub mod DocumentLaws
+pub mod FootprintLaws
+pub mod KeyLaws
+pub mod ItemLaws

@@ -1,3 +1,13 @@
+pub mod Arrays
+pub mod Blocks
+pub mod Closed
 pub mod Documents
+pub mod Footprints
+pub mod Keys
 pub mod Lines
+pub mod Names
+pub mod Plates
 pub mod Reads
+pub mod Sizes
+pub mod Turns
+pub mod Values

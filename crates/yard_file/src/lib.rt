@@ -4,9 +4,21 @@
 //! numbered from 0, lengths are in units of the plate's cells. What the bytes are read as is `yard_of` of `specs/Reads.antt`.
 #![tactic(auto)]
 
+mod arrays;
+mod blocks;
+mod closed;
 mod document;
 mod fault;
+mod footprints;
+mod keys;
+mod names;
+mod plates;
 mod reader;
+mod sizes;
+#[cfg(test)]
+mod tests;
+mod turns;
+mod value;
 
 pub use fault::YardFault;
 pub use reader::read_yard;

@@ -1,0 +1,9 @@
+use Rattle.std.proofs.Common.{◌≡◌, drop, length, []}
+use Rattle.toml.specs.View.{items_view}
+use Rattle.yard_file.specs.Blocks.{blocks_from}
+use Rattle.yard_file.proofs.blocks.add_blocks.Given as goal
+
+abbrev pub invariant-loop-value : goal.invariant-loop-value
+invariant-loop-value l =
+    (length l.yard.blocks ≡ l.value-index) × (l.yard.days ≡ l.fn.yard.days) × (l.yard.plates ≡ l.fn.yard.plates)
+    × (blocks_from l.yard.blocks (items_view (drop l.value-index l.items)) ≡ blocks_from [] (items_view l.items))

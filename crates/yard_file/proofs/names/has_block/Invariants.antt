@@ -1,0 +1,7 @@
+use Rattle.std.proofs.Common.{◌≡◌, drop}
+use Rattle.shape_exact.specs.Yards.{has_name, block_names}
+use Rattle.yard_file.proofs.names.has_block.Given as goal
+
+abbrev pub invariant-loop-block : goal.invariant-loop-block
+invariant-loop-block l =
+    has_name (block_names (drop l.block-index l.blocks)) l.name ≡ has_name (block_names l.blocks) l.name

@@ -1,0 +1,7 @@
+use Rattle.std.proofs.Common.{◌≡◌, drop}
+use Rattle.shape_exact.specs.Yards.{has_name, plate_names}
+use Rattle.yard_file.proofs.names.has_plate.Given as goal
+
+abbrev pub invariant-loop-plate : goal.invariant-loop-plate
+invariant-loop-plate l =
+    has_name (plate_names (drop l.plate-index l.plates)) l.name ≡ has_name (plate_names l.plates) l.name

@@ -1,0 +1,235 @@
+//! Texts of yard files and what they are read as.
+
+use crate::{YardFault, read_yard};
+use std::alloc::{AllocError, Global};
+use std::test::Fail;
+
+const SQUARE: &str = "version = 1
+days = 10
+[[plate]]
+name = \"P\"
+width = 4
+height = 3
+[[block]]
+name = \"A\"
+shape = [[0,0],[2,0],[2,2],[0,2]]
+duration = 2
+due = 1
+";
+
+const HEAD: &str = "version=1\ndays=10";
+
+const PLATE: &str = "{name='P',width=4,height=3}";
+
+const BLOCK: &str = "{name='A',shape=[[0,0],[2,0],[2,2],[0,2]],duration=2,due=1}";
+
+#[test]
+fn reads_the_yard(rt: HostRuntime) -> Result<(), Fail> {
+    let yard = read_yard(rt.alloc(), SQUARE.as_bytes())?;
+    assert_eq!(rt; yard.days(), 10);
+    assert_eq!(rt; yard.plates().len(), 1);
+    assert_eq!(rt; yard.blocks().len(), 1);
+    for plate in yard.plates() {
+        assert_eq!(rt; plate.name.bytes(), b"P".as_slice());
+        assert_eq!(rt; (plate.width, plate.height, plate.pitch), (4, 3, 1));
+        assert!(rt; plate.closed.days().is_empty());
+    }
+    for block in yard.blocks() {
+        assert_eq!(rt; block.name.bytes(), b"A".as_slice());
+        assert_eq!(rt; block.turns, [true, false, false, false]);
+        assert_eq!(rt;
+            (block.duration, block.release, block.due, block.weight),
+            (2, 0, 1, 1)
+        );
+        for (point, (x, y)) in block
+            .shape
+            .points()
+            .iter()
+            .zip([(0, 0), (2, 0), (2, 2), (0, 2)])
+        {
+            assert_eq!(rt; (point.x, point.y), (x, y));
+        }
+    }
+    Ok(())
+}
+
+/// The yard file with these top keys, plates and blocks.
+fn text_of(alloc: Global, head: &str, plates: &str, blocks: &str) -> Result<String, AllocError> {
+    format!(in alloc; "{head}\nplate=[{plates}]\nblock=[{blocks}]\n")
+}
+
+/// So many tables with names of their own and the same other keys.
+fn tables(alloc: Global, count: u8, keys: &str) -> Result<String, AllocError> {
+    let mut text = String::new(alloc);
+    for i in 0..count {
+        let table = format!(in alloc; "{{name='N{i}',{keys}}},")?;
+        text.push_str(table.as_str())?;
+    }
+    Ok(text)
+}
+
+#[test]
+fn takes_what_is_within_the_limits(rt: HostRuntime) -> Result<(), Fail> {
+    for (head, plates, blocks) in [
+        (HEAD, PLATE, BLOCK),
+        (
+            "days=400\nversion=1",
+            "{name='P',width=400,height=400,pitch=100,closed=[399,0,7]}",
+            BLOCK,
+        ),
+        (
+            HEAD,
+            "{name='P',width=1,height=1,closed=[]},{name='Q',width=1,height=1}",
+            BLOCK,
+        ),
+        (
+            HEAD,
+            PLATE,
+            "{name='A',shape=[[0,0],[0,2],[1,2],[2,2],[2,0]],duration=400,release=399,due=399,weight=0,turns=[3,0]}",
+        ),
+    ] {
+        let text = text_of(rt.alloc(), head, plates, blocks)?;
+        let read = read_yard(rt.alloc(), text.as_bytes());
+        assert!(rt; read.is_ok(), "{text}");
+    }
+    Ok(())
+}
+
+#[test]
+fn refuses_one_broken_rule(rt: HostRuntime) -> Result<(), Fail> {
+    for (head, plates, blocks) in [
+        ("days=10", PLATE, BLOCK),
+        ("version=2\ndays=10", PLATE, BLOCK),
+        ("version.x=1\ndays=10", PLATE, BLOCK),
+        ("version=1", PLATE, BLOCK),
+        ("version=1\ndays=401", PLATE, BLOCK),
+        ("version=1\ndays=10.0", PLATE, BLOCK),
+        ("version=1\ndays=10\n\"\"=1", PLATE, BLOCK),
+        (HEAD, "1", BLOCK),
+        (HEAD, "{name='P Q',width=4,height=3}", BLOCK),
+        (HEAD, "{name=2024-01-01,width=4,height=3}", BLOCK),
+        (HEAD, "{name='P',width=65537,height=3}", BLOCK),
+        (HEAD, "{name='P',width=4,height=3,pitch=0}", BLOCK),
+        (HEAD, "{name='P',width=4,height=3,closed=[10]}", BLOCK),
+        (HEAD, "{name='P',width=4,height=3,closed=[-1]}", BLOCK),
+        (HEAD, "{name='P',width=4,height=3,closed=[3,3]}", BLOCK),
+        (HEAD, "{name='P',width=4,height=3,crane=1}", BLOCK),
+        (
+            HEAD,
+            "{name='P',width=4,height=3},{name='P',width=4,height=3}",
+            BLOCK,
+        ),
+        (
+            HEAD,
+            PLATE,
+            "{name='A',shape=[[0,0],[2,0],[2,2,1]],duration=2,due=1}",
+        ),
+        (
+            HEAD,
+            PLATE,
+            "{name='A',shape=[[0,0],[2,0],[2,true]],duration=2,due=1}",
+        ),
+        (
+            HEAD,
+            PLATE,
+            "{name='A',shape=[[0,0],[2,0],[4294967296,2]],duration=2,due=1}",
+        ),
+        (
+            HEAD,
+            PLATE,
+            "{name='A',shape=[[0,0],[1,1],[2,2]],duration=2,due=1}",
+        ),
+        (
+            HEAD,
+            PLATE,
+            "{name='A',shape=[[0,0],[2,0],[0,2]],duration=2,due=1,turns=[]}",
+        ),
+        (
+            HEAD,
+            PLATE,
+            "{name='A',shape=[[0,0],[2,0],[0,2]],duration=2,due=1,turns=[4]}",
+        ),
+        (
+            HEAD,
+            PLATE,
+            "{name='A',shape=[[0,0],[2,0],[0,2]],duration=2,due=1,turns=[1,1]}",
+        ),
+        (
+            HEAD,
+            PLATE,
+            "{name='A',shape=[[0,0],[2,0],[0,2]],duration=0,due=1}",
+        ),
+        (
+            HEAD,
+            PLATE,
+            "{name='A',shape=[[0,0],[2,0],[0,2]],duration=2}",
+        ),
+        (
+            HEAD,
+            PLATE,
+            "{name='A',shape=[[0,0],[2,0],[0,2]],duration=2,due=400}",
+        ),
+        (
+            HEAD,
+            PLATE,
+            "{name='A',shape=[[0,0],[2,0],[0,2]],duration=2,due=1,release=400}",
+        ),
+        (
+            HEAD,
+            PLATE,
+            "{name='A',shape=[[0,0],[2,0],[0,2]],duration=2,due=1,weight=1001}",
+        ),
+    ] {
+        let text = text_of(rt.alloc(), head, plates, blocks)?;
+        let read = read_yard(rt.alloc(), text.as_bytes());
+        assert!(rt; matches!(read, Err(YardFault::NotBuilt)), "{text}");
+    }
+    Ok(())
+}
+
+#[test]
+fn counts_plates_and_blocks(rt: HostRuntime) -> Result<(), Fail> {
+    for (plates, blocks, taken) in [
+        (8, 32, true),
+        (9, 1, false),
+        (1, 33, false),
+        (0, 1, false),
+        (1, 0, false),
+    ] {
+        let plates = tables(rt.alloc(), plates, "width=4,height=3")?;
+        let blocks = tables(
+            rt.alloc(),
+            blocks,
+            "shape=[[0,0],[2,0],[0,2]],duration=2,due=1",
+        )?;
+        let text = text_of(rt.alloc(), HEAD, plates.as_str(), blocks.as_str())?;
+        let read = read_yard(rt.alloc(), text.as_bytes());
+        assert_eq!(rt; read.is_ok(), taken, "{text}");
+    }
+    Ok(())
+}
+
+#[test]
+fn says_the_refusal(rt: HostRuntime) -> Result<(), Fail> {
+    let long = vec![in rt.alloc(); b' '; 1_048_577]?;
+    for (bytes, line) in [
+        (long.as_slice(), "refused yard 1 TooLong\n"),
+        (
+            b"version = 1\ndays = ".as_slice(),
+            "refused yard 2 NotToml\n",
+        ),
+        (b"version = 1 # \xff".as_slice(), "refused yard 2 NotToml\n"),
+        (
+            b"version = 9223372036854775808".as_slice(),
+            "refused yard 2 NotToml\n",
+        ),
+        (b"".as_slice(), "refused yard 18 NotBuilt\n"),
+    ] {
+        let said = match read_yard(rt.alloc(), bytes) {
+            Ok(_) => Vec::new(rt.alloc()),
+            Err(fault) => fault.line(rt.alloc())?,
+        };
+        assert_eq!(rt; said.as_slice(), line.as_bytes());
+    }
+    Ok(())
+}
