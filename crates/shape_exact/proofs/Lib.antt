@@ -28,3 +28,4 @@ pub mod CornerLaws
 pub mod ReadLaws
 pub mod OutlineLaws
 pub mod FaultLaws
+pub mod Rows

@@ -33,3 +33,6 @@ pub use point::Point;
 pub use separation::{apart, separates};
 pub use shape::{Shape, ShapeFault};
 pub use yard::Yard;
+
+#[cfg(test)]
+mod tests;
