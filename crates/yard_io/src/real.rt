@@ -30,6 +30,24 @@ impl<'a, R: Files + Print> RealDesk<'a, R> {
             write_faults: 0,
         }
     }
+
+    fn read_fault(&mut self) -> Trouble
+        ensures later { reads_of self.old ≤ reads_of self.new }
+        ensures rose { Rose (reads_of self.old) (reads_of self.new) }
+        ensures other { writes_of self.old ≤ writes_of self.new }
+    {
+        self.read_faults = self.read_faults.saturating_add(1);
+        Trouble::Failed
+    }
+
+    fn write_fault(&mut self) -> Trouble
+        ensures later { writes_of self.old ≤ writes_of self.new }
+        ensures rose { Rose (writes_of self.old) (writes_of self.new) }
+        ensures other { reads_of self.old ≤ reads_of self.new }
+    {
+        self.write_faults = self.write_faults.saturating_add(1);
+        Trouble::Failed
+    }
 }
 
 fn read_at<R: Files>(rt: &R, name: &str, at: u64, buf: &mut [u8]) -> io::Result<usize>
@@ -64,50 +82,35 @@ impl<'a, R: Files + Print> Desk for RealDesk<'a, R> {
     fn length(&mut self, name: &str) -> Result<u64, Trouble> {
         match fs::metadata(self.rt, name) {
             Ok(about) => Ok(about.len()),
-            Err(_) => {
-                self.read_faults = self.read_faults.saturating_add(1);
-                Err(Trouble::Failed)
-            }
+            Err(_) => Err(self.read_fault()),
         }
     }
 
     fn read(&mut self, name: &str, at: u64, buf: &mut [u8]) -> Result<usize, Trouble> {
         match read_at(self.rt, name, at, buf) {
             Ok(n) if n > 0 => Ok(n),
-            _ => {
-                self.read_faults = self.read_faults.saturating_add(1);
-                Err(Trouble::Failed)
-            }
+            _ => Err(self.read_fault()),
         }
     }
 
     fn fresh(&mut self, name: &str) -> Result<(), Trouble> {
         match fs::create(self.rt, name) {
             Ok(_) => Ok(()),
-            Err(_) => {
-                self.write_faults = self.write_faults.saturating_add(1);
-                Err(Trouble::Failed)
-            }
+            Err(_) => Err(self.write_fault()),
         }
     }
 
     fn append(&mut self, name: &str, bytes: &[u8]) -> Result<usize, Trouble> {
         match append_to(self.rt, name, bytes) {
             Ok(n) if n > 0 => Ok(n),
-            _ => {
-                self.write_faults = self.write_faults.saturating_add(1);
-                Err(Trouble::Failed)
-            }
+            _ => Err(self.write_fault()),
         }
     }
 
     fn say(&mut self, bytes: &[u8]) -> Result<usize, Trouble> {
         match self.rt.write_some(bytes) {
             Ok(n) if n > 0 => Ok(n),
-            _ => {
-                self.write_faults = self.write_faults.saturating_add(1);
-                Err(Trouble::Failed)
-            }
+            _ => Err(self.write_fault()),
         }
     }
 }
