@@ -1,7 +1,8 @@
 -- A day in its place.
-use Rattle.std.proofs.Common.{◌≡◌, ℕ, suc, ◌+◌, ◌≤◌, ◌<◌, List, [], ◌∷◌, length, true, false, refl, ap, arith, nat_lt, inl, inr}
+use Rattle.std.proofs.Common.{◌≡◌, ℕ, suc, ◌+◌, ◌≤◌, ◌<◌, List, [], ◌∷◌, length, true, false, refl, ap, arith, nat_lt, inl, inr, subst, Bool}
+use Rattle.std.specs.Prelude.{◌||◌, ◌==◌}
 use Rattle.std.specs.List.{insert}
-use Rattle.std.proofs.lemmas.Bool.{cases_Bool}
+use Rattle.std.proofs.lemmas.Bool.{cases_Bool, eqb-true}
 use Rattle.std.proofs.lemmas.Bool.Decides.{nat_tests}
 use Rattle.shape_exact.specs.Days.{insert_day, place_of, are_days, has_day, with_day}
 
@@ -42,4 +43,34 @@ with_day-are_days high d ds small a =
     elim (cases_Bool (has_day d ds)) [
       | inl there ↦ rw there a
       | inr new ↦ rw new (insert_day-are_days 0 high d ds (omega arith) small new a)
+    ]
+
+has_day-insert_day : (d e : ℕ) (ds : List ℕ) → has_day d (insert_day e ds) ≡ ((e == d) || has_day d ds)
+has_day-insert_day d e [] = refl
+has_day-insert_day d e (x ∷ xs) =
+    elim (cases_Bool (nat_lt x e)) [
+      | inl less ↦ rw (less, has_day-insert_day d e xs) (either (x == d) (e == d) (has_day d xs))
+      | inr other ↦ rw other refl
+    ]
+  where
+    either : (a b c : Bool) → (a || (b || c)) ≡ (b || (a || c))
+    either true true c = refl
+    either true false c = refl
+    either false true c = refl
+    either false false c = refl
+
+-- a list that holds the day holds it besides
+pub has_day-there : (d e : ℕ) (ds : List ℕ) → has_day e ds ≡ true → has_day d ds ≡ ((e == d) || has_day d ds)
+has_day-there d e ds there = by (e == d) (λ same. subst (λ k. has_day k ds ≡ true) (eqb-true e d same) there)
+  where
+    by : (b : Bool) → (b ≡ true → has_day d ds ≡ true) → has_day d ds ≡ (b || has_day d ds)
+    by true h = h refl
+    by false h = refl
+
+-- the list holds the day besides
+pub has_day-with_day : (d e : ℕ) (ds : List ℕ) → has_day d (with_day e ds) ≡ ((e == d) || has_day d ds)
+has_day-with_day d e ds =
+    elim (cases_Bool (has_day e ds)) [
+      | inl there ↦ rw there (has_day-there d e ds there)
+      | inr new ↦ rw new (has_day-insert_day d e ds)
     ]

@@ -1,5 +1,5 @@
 //! Ascending lists of days.
-ghost use Rattle.std.specs.Prelude.{ℕ, ◌+◌, ◌≡◌, ◌≤◌, ◌<◌, true, false, [], length};
+ghost use Rattle.std.specs.Prelude.{ℕ, ◌+◌, ◌≡◌, ◌≤◌, ◌<◌, ◌==◌, ◌||◌, true, false, [], length};
 ghost use Rattle.shape_exact.specs.Days.{with_day, has_day, place_of, are_days};
 
 use arrayvec::ArrayVec;
@@ -65,6 +65,7 @@ impl DayList {
     pub fn put(&mut self, day: u16)
         requires { day < 400 }
         ensures value { self.new ≡ with_day day self.old }
+        ensures holds { (d : ℕ) → has_day d self.new ≡ (day == d || has_day d self.old) }
         ensures len { has_day day self.old ≡ false → length self.new ≡ length self.old + 1 }
         ensures few { length self.new ≤ 400 }
         ensures below { (high : ℕ) → day < high → are_days 0 high self.old ≡ true → are_days 0 high self.new ≡ true }

@@ -1,6 +1,6 @@
 use Rattle.std.proofs.Common.{◌≡◌, ◌≤◌, false, length, sym, ap, ◌∙◌, arith, lit<}
 use Rattle.shape_exact.specs.Days.{has_day, place_of}
-use Rattle.shape_exact.proofs.DayLaws.{few_days, with_day-are_days, room, insert_day-are_days, insert_day-at_place}
+use Rattle.shape_exact.proofs.DayLaws.{has_day-there, has_day-with_day, few_days, with_day-are_days, room, insert_day-are_days, insert_day-at_place}
 use Rattle.shape_exact.proofs.day_list.DayList.put.Goals as goal
 
 pub insert-requires : goal.insert-requires
@@ -33,3 +33,9 @@ returns-clause-few c =
 
 pub returns-clause-below : goal.returns-clause-below
 returns-clause-below c = λ high small a. rw (returns-clause-value c) (with_day-are_days high c.args.day c.args.self.now small a)
+
+pub returns-then-has-clause-holds : goal.returns-then-has-clause-holds
+returns-then-has-clause-holds c = λ d. has_day-there d c.args.day c.args.self.now (sym c.has.ensures ∙ c.if-has.true)
+
+pub returns-clause-holds : goal.returns-clause-holds
+returns-clause-holds c = λ d. rw (returns-clause-value c) (has_day-with_day d c.args.day c.args.self.now)
