@@ -6,3 +6,4 @@ pub mod GridLaws
 pub mod StandLaws
 pub mod ReadLaws
 pub mod TableLaws
+pub mod SpotLaws

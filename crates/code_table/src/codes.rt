@@ -5,9 +5,12 @@ ghost use Rattle.shape_exact.specs.Shapes.{turned, cells};
 ghost use Rattle.shape_exact.specs.declared.block.Block.{Block};
 ghost use Rattle.shape_exact.specs.declared.plate.Plate.{Plate};
 ghost use Rattle.plate_calendar.specs.Calendars.{open_days};
-ghost use Rattle.code_table.specs.Placements.{placements};
+ghost use Rattle.code_table.specs.Placements.{placements, own_cost, IsPlacement};
+ghost use Rattle.code_table.specs.Spots.{IsSpot};
 ghost use Rattle.code_table.specs.Tables.{IsTable};
 
+use crate::placement::Placement;
+use crate::spot::{Spot, place_at, spot_of};
 use crate::stand::calendars_of;
 use crate::table::{Table, tables_of};
 use arrayvec::ArrayVec;
@@ -115,5 +118,50 @@ impl Codes {
         ensures few { result ≤ 1048576 }
     {
         self.table(block).count
+    }
+
+    /// Where a code stands.
+    fn spot(&self, block: u8, code: u32) -> Spot
+        requires block { block < length self.now.blocks }
+        requires code { code < length (placements self.now block) }
+        ensures { (b : Block) → slice_get self.now.blocks block ≡ Some b → IsSpot self.now b code result }
+    {
+        let sums = self.table(block).sums.as_slice();
+        let blocks = self.yard.blocks();
+        let block = &blocks[block as usize];
+        spot_of(&self.yard, self.calendars.as_slice(), block, sums, code)
+    }
+
+    /// The placement of a code.
+    pub fn place(&self, block: u8, code: u32) -> Placement
+        requires block { block < length self.now.blocks }
+        requires code { code < length (placements self.now block) }
+        ensures value { slice_get (placements self.now block) code ≡ Some result }
+        ensures placement { (b : Block) → slice_get self.now.blocks block ≡ Some b → IsPlacement self.now b result }
+        ensures plate { result.plate < length self.now.plates }
+        ensures turn { result.turn < 4 }
+        ensures start { result.start < self.now.days }
+        ensures end { result.end < self.now.days }
+        ensures order { result.start ≤ result.end }
+        ensures x { result.x ≤ 400 }
+        ensures y { result.y ≤ 400 }
+    {
+        let spot = self.spot(block, code);
+        let plates = self.yard().plates();
+        let plate = &plates[spot.plate as usize];
+        place_at(plate, self.shape(block, spot.turn), spot)
+    }
+
+    /// What a code costs: the weight for each day from the due day to its end.
+    pub fn own_cost(&self, block: u8, code: u32) -> u32
+        requires block { block < length self.now.blocks }
+        requires code { code < length (placements self.now block) }
+        ensures value { result ≡ own_cost self.now block code }
+        ensures few { result ≤ 400000 }
+    {
+        let end = self.spot(block, code).end;
+        let blocks = self.yard().blocks();
+        let block = &blocks[block as usize];
+        block.weight as u32 * end.saturating_sub(block.due) as u32
     }
 }

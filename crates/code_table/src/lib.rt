@@ -8,6 +8,8 @@ mod codes;
 mod count;
 mod grid;
 mod placement;
+mod search;
+mod spot;
 mod stand;
 mod table;
 
