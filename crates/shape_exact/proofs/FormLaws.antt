@@ -135,18 +135,11 @@ shape-turned (suc q) vs s =
     let t = shape-turned q vs s in
     subst IsShape (sym (turn_is (turned q vs) (normal (turned q vs) t))) (shape-rot (turned q vs) t)
 
--- points turned within a height are a footprint turned, where the height is the greatest y
-pub turned_points : (vs ws : List Point) (h : ℤ) → IsShape vs → h ≡ greatest (λ p. p.y) vs → ws ≡ map (λ v. record { x = h -ℤ v.y; y = v.x }) vs → (ws ≡ turned 1 vs) × IsShape ws
+-- points turned within the height are the footprint turned
+pub turned_points : (vs ws : List Point) (h : ℤ) → IsShape vs → h ≡ pos (reach_y vs) → ws ≡ map (λ v. record { x = h -ℤ v.y; y = v.x }) vs → (ws ≡ turned 1 vs) × IsShape ws
 turned_points vs ws h s top is =
-    let e : ws ≡ map (rot (reach_y vs)) vs = is ∙ ap (λ (k : ℤ). map (λ (v : Point). record { x = k -ℤ v.y; y = v.x }) vs) (top ∙ high_y vs (normal vs s)) in
+    let e : ws ≡ map (rot (reach_y vs)) vs = is ∙ ap (λ (k : ℤ). map (λ (v : Point). record { x = k -ℤ v.y; y = v.x }) vs) top in
     (e ∙ sym (quarter_is vs s), subst IsShape (sym e) (shape-rot vs s))
-
--- the height of a footprint is not below 0
-pub not_low : (vs : List Point) (h : ℤ) → IsShape vs → h ≡ greatest (λ p. p.y) vs → pos 0 ≤ℤ h
-not_low vs h s e = plain h (reach_y vs) (e ∙ high_y vs (normal vs s))
-  where
-    plain : (h : ℤ) (n : ℕ) → h ≡ pos n → pos 0 ≤ℤ h
-    plain h n e = omega (arith, ints)
 
 -- each turn keeps the cells
 pub cells-turned : (q : ℕ) (vs : List Point) → IsShape vs → cells (turned q vs) ≡ cells vs

@@ -29,3 +29,4 @@ pub mod ReadLaws
 pub mod OutlineLaws
 pub mod FaultLaws
 pub mod Rows
+mod CellRows

@@ -1,22 +1,10 @@
 //! Quarter turns of footprints.
-ghost use Rattle.std.specs.Prelude.{◌≡◌, ◌≤◌, ℤ, pos, ◌-ℤ◌, ◌≤ℤ◌, map, length};
+ghost use Rattle.std.specs.Prelude.{◌≡◌, ◌≤◌, pos, ◌-ℤ◌, ◌≤ℤ◌, map, length};
 ghost use Rattle.std.specs.List.{All};
-ghost use Rattle.shape_exact.specs.Shapes.{greatest, turned};
+ghost use Rattle.shape_exact.specs.Shapes.{turned};
 
 use crate::{Point, Shape};
 use arrayvec::ArrayVec;
-
-/// The greatest y of points that are not below 0.
-fn top(points: &[Point]) -> i32
-    requires { All (λ v. pos 0 ≤ℤ v.y) points.now }
-    ensures { result ≡ greatest (λ p. p.y) points.now }
-{
-    let mut top = 0;
-    for p in points {
-        top = top.max(p.y);
-    }
-    top
-}
 
 /// The points after a quarter turn counterclockwise, which takes (x, y) to (-y, x), and a shift to the right by `height`.
 fn turn_once(points: &[Point], height: i32) -> ArrayVec<Point, 16>
@@ -51,8 +39,8 @@ impl Shape {
     fn quarter(&self) -> Shape
         ensures { result ≡ turned 1 self.now }
     {
-        let vertices = self.points();
-        let points = turn_once(vertices, top(vertices));
+        let (_, height) = self.extent();
+        let points = turn_once(self.points(), height);
         Shape { points }
     }
 

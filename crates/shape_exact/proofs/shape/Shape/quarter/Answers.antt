@@ -1,28 +1,34 @@
-use Rattle.std.proofs.Common.{◌∙◌, ap, FitsSigned, w32}
-use Rattle.std.proofs.lemmas.Int.{to_z-of_z}
-use Rattle.shape_exact.specs.Shapes.{turned}
-use Rattle.shape_exact.proofs.FormLaws.{not_under, not_low, turned_points}
+use Rattle.std.proofs.Common.{◌≡◌, ◌∙◌, ◌≤◌, ap, sym, arith, FitsSigned, w32, ℕ, ℤ, pos}
+use Rattle.std.specs.Prelude.{◌≤ℤ◌}
+use Rattle.std.proofs.lemmas.Int.{to_z-of_z, ints}
+use Rattle.shape_exact.specs.Shapes.{turned, reach_y}
+use Rattle.shape_exact.proofs.FormLaws.{not_under, turned_points}
 use Rattle.shape_exact.proofs.shape.Shape.quarter.Goals as goal
 
-pub top-requires : goal.top-requires
-top-requires c = not_under c.points-vertices.result.now c.points-vertices.ensures.shape
+fits : (h : ℤ) (n : ℕ) → h ≡ pos n → n ≤ 2000 → FitsSigned w32 h
+fits h n e l = omega (arith, ints)
+
+not_negative : (h : ℤ) (n : ℕ) → h ≡ pos n → pos 0 ≤ℤ h
+not_negative h n e = omega (arith, ints)
 
 pub turn_once-points-requires-clause-height : goal.turn_once-points-requires-clause-height
 turn_once-points-requires-clause-height c =
-    let f : FitsSigned w32 c.top.result = record { sfits = c.top.type_inv } in
-    simp to_z-of_z (not_low c.points-vertices.result.now c.top.result c.points-vertices.ensures.shape c.top.ensures)
+    let f = fits c.extent-height.result.1 (reach_y c.args.self.now) c.extent-height.ensures.y c.extent-height.ensures.few.1 in
+    simp to_z-of_z (not_negative c.extent-height.result.1 (reach_y c.args.self.now) c.extent-height.ensures.y)
 
 pub turn_once-points-requires-clause-points : goal.turn_once-points-requires-clause-points
-turn_once-points-requires-clause-points c = not_under c.points-vertices.result.now c.points-vertices.ensures.shape
+turn_once-points-requires-clause-points c = not_under c.points.result.now c.points.ensures.shape
 
 pub invariant_of-result : goal.invariant_of-result
 invariant_of-result c =
-    let f : FitsSigned w32 c.top.result = record { sfits = c.top.type_inv } in
+    let f = fits c.extent-height.result.1 (reach_y c.args.self.now) c.extent-height.ensures.y c.extent-height.ensures.few.1 in
     let e = simp to_z-of_z at c.turn_once-points.ensures in
-    (turned_points c.points-vertices.result.now c.turn_once-points.result.items c.top.result c.points-vertices.ensures.shape c.top.ensures e).1
+    let y = c.extent-height.ensures.y ∙ ap (λ vs. pos (reach_y vs)) (sym c.points.ensures.value) in
+    (turned_points c.points.result.now c.turn_once-points.result.items c.extent-height.result.1 c.points.ensures.shape y e).1
 
 pub returns : goal.returns
 returns c =
-    let f : FitsSigned w32 c.top.result = record { sfits = c.top.type_inv } in
+    let f = fits c.extent-height.result.1 (reach_y c.args.self.now) c.extent-height.ensures.y c.extent-height.ensures.few.1 in
     let e = simp to_z-of_z at c.turn_once-points.ensures in
-    (turned_points c.points-vertices.result.now c.turn_once-points.result.items c.top.result c.points-vertices.ensures.shape c.top.ensures e).0 ∙ ap (turned 1) c.points-vertices.ensures.value
+    let y = c.extent-height.ensures.y ∙ ap (λ vs. pos (reach_y vs)) (sym c.points.ensures.value) in
+    (turned_points c.points.result.now c.turn_once-points.result.items c.extent-height.result.1 c.points.ensures.shape y e).0 ∙ ap (turned 1) c.points.ensures.value
