@@ -7,3 +7,4 @@ pub mod StandLaws
 pub mod ReadLaws
 pub mod TableLaws
 pub mod SpotLaws
+pub mod CostLaws

@@ -24,14 +24,14 @@ allowed-true None e = absurd (false≢true e)
 allowed-true (Some b) e = ap Some e
 
 -- where an element of a grid stands
-record InGrid (plate : Plate) (high long : ℕ) (f : ℕ → ℕ → Placement) (p : Placement) : Type 0 where
-  row : ℕ
-  column : ℕ
-  high_fits : row * plate.pitch + high ≤ plate.height
-  long_fits : column * plate.pitch + long ≤ plate.width
-  is : f (row * plate.pitch) (column * plate.pitch) ≡ p
+pub record InGrid (plate : Plate) (high long : ℕ) (f : ℕ → ℕ → Placement) (p : Placement) : Type 0 where
+  pub row : ℕ
+  pub column : ℕ
+  pub high_fits : row * plate.pitch + high ≤ plate.height
+  pub long_fits : column * plate.pitch + long ≤ plate.width
+  pub is : f (row * plate.pitch) (column * plate.pitch) ≡ p
 
-in_grid : (plate : Plate) (high long : ℕ) (f : ℕ → ℕ → Placement) (k : ℕ) (p : Placement) → slice_get (grid_of plate high long f) k ≡ Some p → InGrid plate high long f p
+pub in_grid : (plate : Plate) (high long : ℕ) (f : ℕ → ℕ → Placement) (k : ℕ) (p : Placement) → slice_get (grid_of plate high long f) k ≡ Some p → InGrid plate high long f p
 in_grid plate high long f k p e =
     let (j, high', k1, e1) = from-step plate.pitch high plate.height k (λ y. row_of plate long (f y)) p e in
     let (i, wide, k2, e2) = from-step plate.pitch long plate.width k1 (λ x. f (j * plate.pitch) x ∷ []) p e1 in

@@ -5,6 +5,7 @@ use Rattle.shape_exact.specs.Shapes.{turned, cells}
 use Rattle.shape_exact.specs.declared.block.Block.{Block}
 use Rattle.plate_calendar.specs.Calendars.{open_days}
 use Rattle.code_table.specs.declared.table.Table.{Table}
+use Rattle.code_table.specs.Costs.{IsLeastCost}
 use Rattle.code_table.specs.Placements.{placements_of}
 use Rattle.code_table.specs.Stands.{stands, sum_to}
 
@@ -13,13 +14,14 @@ pub record IsSums (yard : PlainYard) (block : Block) (sums : List ℕ) : Type 0 
   pub len : length sums ≡ stands yard + 1
   pub counted : (k : ℕ) → k ≤ stands yard → slice_index sums k ≡ sum_to yard block k
 
--- the table of a block: its shape in the four turns, its cells, its sums and its number of placements
+-- the table of a block: its shape in the four turns, its cells, its sums, its number of placements and their least cost
 pub record IsTable (yard : PlainYard) (block : Block) (t : Table) : Type 0 where
   pub turns : length t.shapes.items ≡ 4
   pub shapes : (q : ℕ) → q < 4 → slice_get t.shapes.items q ≡ Some (turned q block.shape)
   pub cells_are : t.cells ≡ cells block.shape
   pub sums : IsSums yard block t.sums.items
   pub count : t.count ≡ length (placements_of yard block)
+  pub least_is : IsLeastCost block (placements_of yard block) t.least
   pub few : length (placements_of yard block) ≤ 1048576
 
 -- each block has its table

@@ -1,10 +1,11 @@
 //! The codes of a yard.
-ghost use Rattle.std.specs.Prelude.{◌≡◌, ℕ, ◌≤◌, ◌<◌, length, IfOk, slice_get, Some};
+ghost use Rattle.std.specs.Prelude.{◌≡◌, ℕ, ◌≤◌, ◌<◌, length, IfOk, slice_get, Some, IfNone, IfSome};
 ghost use Rattle.shape_exact.specs.Yards.{IsYard};
 ghost use Rattle.shape_exact.specs.Shapes.{turned, cells};
 ghost use Rattle.shape_exact.specs.declared.block.Block.{Block};
 ghost use Rattle.shape_exact.specs.declared.plate.Plate.{Plate};
 ghost use Rattle.plate_calendar.specs.Calendars.{open_days};
+ghost use Rattle.code_table.specs.Costs.{IsAtMostEachCost, IsCostOfSome};
 ghost use Rattle.code_table.specs.Placements.{placements, own_cost, IsPlacement};
 ghost use Rattle.code_table.specs.Spots.{IsSpot};
 ghost use Rattle.code_table.specs.Tables.{IsTable};
@@ -78,7 +79,8 @@ impl Codes {
     /// The table of a block.
     fn table(&self, block: u8) -> &Table
         requires { block < length self.now.blocks }
-        ensures { (b : Block) → slice_get self.now.blocks block ≡ Some b → IsTable self.now b result.now }
+        ensures is { (b : Block) → slice_get self.now.blocks block ≡ Some b → IsTable self.now b result.now }
+        ensures limits { IsYard self.now }
     {
         let tables = self.tables.as_slice();
         &tables[block as usize]
@@ -163,5 +165,16 @@ impl Codes {
         let blocks = self.yard().blocks();
         let block = &blocks[block as usize];
         block.weight as u32 * end.saturating_sub(block.due) as u32
+    }
+
+    /// The least cost of a block's codes. None where it has no code.
+    pub fn least_cost(&self, block: u8) -> Option<u32>
+        requires { block < length self.now.blocks }
+        ensures none { IfNone result (length (placements self.now block) ≡ 0) }
+        ensures least { IfSome result (IsAtMostEachCost self.now block) }
+        ensures attained { IfSome result (IsCostOfSome self.now block) }
+        ensures few { IfSome result (λ c. c ≤ 400000) }
+    {
+        self.table(block).least
     }
 }

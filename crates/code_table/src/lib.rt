@@ -7,6 +7,7 @@
 mod codes;
 mod count;
 mod grid;
+mod least;
 mod placement;
 mod search;
 mod spot;

@@ -7,6 +7,7 @@ ghost use Rattle.code_table.specs.Placements.{placements, placements_of};
 ghost use Rattle.code_table.specs.Tables.{IsSums, IsTable, AreTables};
 
 use crate::count::stand_len;
+use crate::least::least_of;
 use crate::stand::{stands, turns_of};
 use arrayvec::ArrayVec;
 use plate_calendar::Calendar;
@@ -14,13 +15,14 @@ use shape_exact::{Block, NoMemory, Shape, Yard};
 use std::alloc::Global;
 
 /// A block's shape in its four turns and the number of its cells; for each stand, how many placements the stands before
-/// it have; and the number of its placements.
+/// it have; and the number of its placements and their least cost.
 #[derive(Drop)]
 pub(crate) struct Table {
     pub(crate) shapes: ArrayVec<Shape, 4>,
     pub(crate) cells: u32,
     pub(crate) sums: Vec<u32>,
     pub(crate) count: u32,
+    pub(crate) least: Option<u32>,
 }
 
 /// For each stand how many placements the stands before it have, and last the number of all.
@@ -72,11 +74,13 @@ fn table_of(
     let shapes = turns_of(&block.shape);
     let sums = sums_of(alloc, yard, calendars, shapes.as_slice(), block)?;
     let count = last_of(sums.as_slice());
+    let least = least_of(yard, calendars, block, sums.as_slice());
     Ok(Table {
         shapes,
         cells: block.shape.cells(),
         sums,
         count,
+        least,
     })
 }
 

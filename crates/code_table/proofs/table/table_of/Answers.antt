@@ -11,5 +11,7 @@ returns c = record {
   count =
       c.last_of-count.ensures ∙ ap (λ ns. get_or ns (length ns - 1) 0) c.as_slice-2.ensures.value
       ∙ count_at c.args.yard.now c.args.block.now c.in_ok-sums.sums.items c.in_ok-sums.ensures;
+  least_is =
+      c.least_of-least.ensures;
   few = c.requires.few;
 }

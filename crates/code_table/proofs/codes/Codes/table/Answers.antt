@@ -4,8 +4,8 @@ use Rattle.code_table.specs.Tables.{IsCoded}
 use Rattle.code_table.proofs.ReadLaws.{read_at}
 use Rattle.code_table.proofs.codes.Codes.table.Goals as goal
 
-pub returns : goal.returns
-returns c = λ b at.
+pub returns-clause-is : goal.returns-clause-is
+returns-clause-is c = λ b at.
     let family : PlainYard → Type 0 = λ y. IsCoded y c.self.inside.calendars.items c.self.inside.tables.items in
     let coded : IsCoded c.args.self.now c.self.inside.calendars.items c.self.inside.tables.items = subst family c.self.view_is c.self.invariant in
     let long = coded.tables.one_each in
