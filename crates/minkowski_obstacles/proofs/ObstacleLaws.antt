@@ -212,7 +212,7 @@ value_cut s x y b e = by (value s (offset x y)) (s.along.y *ℤ x) b (slope_at s
     by : (v p b : ℤ) → v ≡ b -ℤ p → (pos 0 <ℤ v) ↔ (p <ℤ b)
     by v p b e = (λ h. omega (arith, linear), λ h. omega (arith, linear))
 
-all_push_back : {A : Type 0} (P : A → Type 0) (xs : List A) (y : A) → All P (xs ++ y ∷ []) → All P xs × P y
+pub all_push_back : {A : Type 0} (P : A → Type 0) (xs : List A) (y : A) → All P (xs ++ y ∷ []) → All P xs × P y
 all_push_back P [] y h = (All-nil P, All-head P y [] h)
 all_push_back P (x ∷ xs) y h = let r = all_push_back P xs y (All-tail P x (xs ++ y ∷ []) h) in (All-cons P x xs (All-head P x (xs ++ y ∷ []) h) r.0, r.1)
 

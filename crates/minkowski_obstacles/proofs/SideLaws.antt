@@ -90,7 +90,7 @@ sum_from fs ms ss ts z s m = record {
     case f (inr h) = inr h
 
 -- ---- another order of the sides
-contains_from : {A : Type 0} (P : A → Type 0) (xs : List A) → Some_of P xs → (x : A) × Contains xs x × P x
+pub contains_from : {A : Type 0} (P : A → Type 0) (xs : List A) → Some_of P xs → (x : A) × Contains xs x × P x
 contains_from P [] h = absurd h
 contains_from P (x ∷ xs) (inl h) = (x, (zero, omega arith, refl), h)
 contains_from P (x ∷ xs) (inr h) = let r = contains_from P xs h in (r.0, (suc r.1.0, (let l = r.1.1 in omega arith), r.1.2), r.2)
@@ -101,7 +101,7 @@ some_permuted P xs ys p h =
     let c = Contains-permutation xs ys r.0 p r.1 in
     some_from_Any P ys (c.0, r.0, c.1, c.2, r.2)
 
-all_from_every : {A : Type 0} (P : A → Type 0) (xs : List A) → Every P xs → All P xs
+pub all_from_every : {A : Type 0} (P : A → Type 0) (xs : List A) → Every P xs → All P xs
 all_from_every P [] h = λ k d l. absurd (omega arith)
 all_from_every P (x ∷ xs) h = All-cons P x xs h.0 (all_from_every P xs h.1)
 

@@ -14,7 +14,7 @@ use std::marker::Model;
 
 /// The offsets of a moving footprint at which it has a point strictly inside in common with a fixed one at (0, 0).
 /// Contracts see it as the two footprints.
-#[derive(Drop)]
+#[derive(Clone, Drop)]
 pub struct Obstacle {
     fixed: Shape,
     moving: Shape,
@@ -109,6 +109,7 @@ impl Obstacle {
     pub fn row(&self, y: i32) -> Option<(i32, i32)>
         ensures none { IfNone result (IsEmptyRow self.now y) }
         ensures some { IfSome result (λ r. IsRow self.now y r.0 r.1) }
+        ensures few { IfSome result (λ r. (negsuc 1999 ≤ℤ r.0) × (r.1 ≤ℤ pos 2000)) }
     {
         let row = row_within(self.sides.as_slice(), y);
         if row.low <= row.high {

@@ -73,3 +73,14 @@ returns-else-row-clause-none c =
     let k = subst (λ (ss : List Side). (x : ℤ) → Holds s x ↔ IsHeld ss c.args.y x) c.as_slice.ensures.value h in
     let r = row_none o.fixed o.moving o.sides.items c.args.y s i.fixed_shape i.moving_shape i.sum k (out_of_order s.low s.high f1 f2 c.if-row.false) in
     subst (λ (p : Pair). IsEmptyRow p c.args.y) c.self.view_is r
+
+pub returns-then-row-clause-few : goal.returns-then-row-clause-few
+returns-then-row-clause-few c =
+    let s = c.row_within-row.result in
+    let f1 : FitsSigned w64 c.row_within-row.result.low = search rules in
+    let f2 : FitsSigned w64 c.row_within-row.result.high = search rules in
+    let h = c.row_within-row.ensures in
+    let l = in_order s.low s.high f1 f2 c.if-row.true in
+    let g1 = low_fits s c.as_slice.result.now _ h l in
+    let g2 = high_fits s c.as_slice.result.now _ h l in
+    simp to_z-of_z (((h s.low).0 (same s.low, l)).0.0, ((h s.high).0 (l, same s.high)).0.1)
