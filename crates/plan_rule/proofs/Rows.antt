@@ -94,6 +94,33 @@ last_bit = refl
 abbrev root : Job
 root = record { front = 0; length = 0 }
 
+-- the first and the last plan of a job's interval, on two blocks of 18 codes, and the plans beside them
+abbrev two : Choices
+two = of_counts (18 ∷ 18 ∷ [])
+
+-- job (0, 4): code 0 of the first block, and every code of the second
+last_of_code_0 : path two (0 ∷ 17 ∷ []) ≡ 260046848
+unfolding path
+last_of_code_0 = refl
+
+first_of_code_1 : path two (1 ∷ 0 ∷ []) ≡ 268435456
+unfolding path
+first_of_code_1 = refl
+
+-- job (134217728, 5): code 0, and the codes 9 to 17
+first_of_upper_codes : path two (0 ∷ 9 ∷ []) ≡ 134217728
+unfolding path
+first_of_upper_codes = refl
+
+last_of_lower_codes : path two (0 ∷ 8 ∷ []) ≡ 125829120
+unfolding path
+last_of_lower_codes = refl
+
+-- job (67108864, 8) has the plan 0, 4 alone, and job (75497472, 9) none
+next_after_code_4 : path two (0 ∷ 5 ∷ []) ≡ 83886080
+unfolding path
+next_after_code_4 = refl
+
 lower_half_of_root : word (lower root) ≡ 1
 lower_half_of_root = refl
 
