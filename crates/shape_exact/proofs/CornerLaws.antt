@@ -44,11 +44,12 @@ fold_min_from {A} f a (x ∷ xs) =
     right : (a b r : ℤ) → r ≤ℤ int_min a b → r ≤ℤ b
     right a b r h = omega (arith, ints, clamps)
 
--- each coordinate is at most the greatest one, and at least the least one
+-- each coordinate is at most the greatest one
 pub below_greatest : (f : Point → ℤ) (vs : List Point) → All (λ v. f v ≤ℤ greatest f vs) vs
 below_greatest f [] = All-nil _
 below_greatest f (v ∷ vs) = let h = fold_max_from f (f v) vs in All-cons (λ w. f w ≤ℤ greatest f (v ∷ vs)) v vs h.0 h.1
 
+-- and at least the least one
 pub above_least : (f : Point → ℤ) (vs : List Point) → All (λ v. least f vs ≤ℤ f v) vs
 above_least f [] = All-nil _
 above_least f (v ∷ vs) = let h = fold_min_from f (f v) vs in All-cons (λ w. least f (v ∷ vs) ≤ℤ f w) v vs h.0 h.1
@@ -69,11 +70,12 @@ fold_min_within {A} f k a (x ∷ xs) h i =
     both : (a b : ℤ) → k ≤ℤ a → k ≤ℤ b → k ≤ℤ int_min a b
     both a b h i = omega (arith, ints, clamps)
 
--- a bound of all coordinates is a bound of the greatest and of the least one
+-- a bound of all coordinates is a bound of the greatest one
 pub greatest_within : (f : Point → ℤ) (k : ℤ) (vs : List Point) → 1 ≤ length vs → All (λ v. f v ≤ℤ k) vs → greatest f vs ≤ℤ k
 greatest_within f k [] n h = absurd (omega arith)
 greatest_within f k (v ∷ vs) n h = fold_max_within f k (f v) vs (All-head (λ w. f w ≤ℤ k) v vs h) (All-tail (λ w. f w ≤ℤ k) v vs h)
 
+-- and of the least one
 pub least_within : (f : Point → ℤ) (k : ℤ) (vs : List Point) → 1 ≤ length vs → All (λ v. k ≤ℤ f v) vs → k ≤ℤ least f vs
 least_within f k [] n h = absurd (omega arith)
 least_within f k (v ∷ vs) n h = fold_min_within f k (f v) vs (All-head (λ w. k ≤ℤ f w) v vs h) (All-tail (λ w. k ≤ℤ f w) v vs h)

@@ -6,6 +6,7 @@ use Rattle.std.proofs.lemmas.Bool.{cases_Bool, eqb-true}
 use Rattle.std.proofs.lemmas.Bool.Decides.{nat_tests}
 use Rattle.shape_exact.specs.Days.{insert_day, place_of, are_days, has_day, with_day}
 
+-- the day put at its place
 pub insert_day-at_place : (d : ℕ) (ds : List ℕ) → insert ds (place_of d ds) d ≡ insert_day d ds
 insert_day-at_place d [] = refl
 insert_day-at_place d (x ∷ xs) =
@@ -14,6 +15,7 @@ insert_day-at_place d (x ∷ xs) =
       | inr other ↦ rw other refl
     ]
 
+-- one day more
 pub length-insert_day : (d : ℕ) (ds : List ℕ) → length (insert_day d ds) ≡ length ds + 1
 length-insert_day d [] = refl
 length-insert_day d (x ∷ xs) =
@@ -32,6 +34,7 @@ pub insert_day-are_days : (low high d : ℕ) (ds : List ℕ) → low ≤ d → d
 insert_day-are_days low high d [] le small new a = grind (arith, nat_tests)
 insert_day-are_days low high d (x ∷ xs) le small new a = grind (arith, nat_tests, insert_day-are_days (suc x) high d xs)
 
+-- a list that lacks a day below 400 has fewer than 400
 pub room : (d : ℕ) (ds : List ℕ) → d < 400 → has_day d ds ≡ false → are_days 0 400 ds ≡ true → length ds < 400
 room d ds small new a =
     let more = few_days 0 400 (insert_day d ds) (omega arith) (insert_day-are_days 0 400 d ds (omega arith) small new a) in

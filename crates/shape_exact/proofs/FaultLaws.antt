@@ -24,26 +24,32 @@ not_many : (vs : List Point) → length vs ≤ 16 → nat_lt 16 (length vs) ≡ 
 not_many vs h = grind (arith, nat_tests)
 
 -- ---- each fault where it is the first
+-- fewer than 3 points
 pub too_few : (vs : List Point) → length vs < 3 → shape_of vs ≡ Err TooFew
 unfolding shape_of
 too_few vs h = let few : nat_lt (length vs) 3 ≡ true = grind (arith, nat_tests) in rw few refl
 
+-- more than 16 points
 pub too_many : (vs : List Point) → 16 < length vs → shape_of vs ≡ Err TooMany
 unfolding shape_of
 too_many vs h = let many : nat_lt 16 (length vs) ≡ true = grind (arith, nat_tests) in rw (not_few vs (omega arith), many) refl
 
+-- a vertex out of range
 pub far : (vs : List Point) (i : ℕ) → 3 ≤ length vs → length vs ≤ 16 → first_far vs ≡ Some i → shape_of vs ≡ Err (Range i)
 unfolding shape_of
 far vs i some few e = rw (not_few vs some, not_many vs few, e) refl
 
+-- an equal pair
 pub equal : (vs : List Point) (i j : ℕ) → 3 ≤ length vs → length vs ≤ 16 → first_far vs ≡ None → first_equal vs ≡ Some (i, j) → shape_of vs ≡ Err (Equal i j)
 unfolding shape_of
 equal vs i j some few near e = rw (not_few vs some, not_many vs few, near, e) refl
 
+-- no cross product that is not 0
 pub flat : (vs : List Point) → 3 ≤ length vs → length vs ≤ 16 → first_far vs ≡ None → first_equal vs ≡ None → inner_sign vs ≡ None → shape_of vs ≡ Err Flat
 unfolding shape_of
 flat vs some few near once e = rw (not_few vs some, not_many vs few, near, once, e) refl
 
+-- a cross product of the other sign
 pub other : (vs : List Point) (left : Bool) (i j : ℕ) → 3 ≤ length vs → length vs ≤ 16 → first_far vs ≡ None → first_equal vs ≡ None
     → inner_sign vs ≡ Some left → first_other left vs ≡ Some (i, j) → shape_of vs ≡ Err (NotConvex i j)
 unfolding shape_of
@@ -63,6 +69,7 @@ all_near vs e i l = by (is_near (vertex vs i)) (none_at (length vs) (far_at vs) 
     by true h = refl
     by false h = absurd (none-some i (sym h))
 
+-- all are in range
 pub are_near : (vs : List Point) → first_far vs ≡ None → All (IsWithin 1000) vs
 are_near vs e = All-from_get_or (IsWithin 1000) vs origin (λ i l. near_within (vertex vs i) (all_near vs e i l))
 
@@ -86,6 +93,7 @@ unlike vs e i j l m same =
     let alike : is_same (vertex vs i) (vertex vs j) ≡ true = subst (λ (p : Point). is_same (vertex vs i) p ≡ true) same (same_self (vertex vs i)) in
     false≢true (sym apart ∙ alike)
 
+-- each point is the vertex of one number
 pub once : (vs : List Point) → first_equal vs ≡ None → (i j : ℕ) → i < length vs → j < length vs → vertex vs i ≡ vertex vs j → i ≡ j
 once vs e i j l m same = elim (cases_lt i j) [
   | inl less ↦ absurd (unlike vs e i j less m same)

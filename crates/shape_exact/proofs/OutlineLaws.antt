@@ -75,6 +75,7 @@ after_back : (n e : ℕ) → e < n → after n (n - 1 - e) ≡ back n e
 after_back n zero l = let no : nat_lt (n - 1 - 0 + 1) n ≡ false = grind (arith, nat_tests) in rw no refl
 after_back n (suc e) l = let yes : nat_lt (n - 1 - suc e + 1) n ≡ true = grind (arith, nat_tests) in rw yes (omega arith)
 
+-- as many vertices
 pub length-backwards : (vs : List Point) → length (backwards vs) ≡ length vs
 length-backwards [] = refl
 length-backwards (v ∷ vs) = ap suc (length-reverse vs)
@@ -89,6 +90,7 @@ vertex-backwards (v ∷ vs) (suc k) l =
     at : (i j : ℕ) → j ≡ suc i → get_or vs i origin ≡ get_or (v ∷ vs) j origin
     at i j e = rw e refl
 
+-- in range where they were
 pub near-backwards : (vs : List Point) → All (IsWithin 1000) vs → All (IsWithin 1000) (backwards vs)
 near-backwards vs h =
     let n = length-backwards vs in

@@ -113,10 +113,12 @@ reaches f vs h i = record { is = is (greatest f vs) h; some = some (greatest f v
     few (pos n) h i = omega (arith, ints)
     few (negsuc n) h i = absurd (omega (arith, ints))
 
+-- to the right
 pub reaches_x : (vs : List Point) → IsShape vs → Reaches (λ p. p.x) vs
 reaches_x vs s = reaches (λ p. p.x) vs (reach_some (λ p. p.x) upright vs s.low_x s.wide)
     (greatest_within (λ p. p.x) (pos 2000) vs (let n = s.some in omega arith) (λ k d l. (s.reach k d l).0))
 
+-- and upwards
 pub reaches_y : (vs : List Point) → IsShape vs → Reaches (λ p. p.y) vs
 reaches_y vs s = reaches (λ p. p.y) vs (reach_some (λ p. p.y) level vs s.low_y s.wide)
     (greatest_within (λ p. p.y) (pos 2000) vs (let n = s.some in omega arith) (λ k d l. (s.reach k d l).1))

@@ -12,7 +12,7 @@ abbrev pub first_below : {A : Type 0} → ℕ → (ℕ → Option A) → Option 
 first_below zero f = None
 first_below (suc n) f = option_or (first_below n f) (f n)
 
--- the number, where the test holds
+-- the value, where the test holds
 abbrev pub where_so : {A : Type 0} → Bool → A → Option A
 where_so true x = Some x
 where_so false x = None
@@ -55,10 +55,11 @@ sign (pos zero) = None
 sign (pos (suc n)) = Some true
 sign (negsuc n) = Some false
 
--- the sign of the first cross product that is not 0, by edge and then by vertex
+-- the sign of the first cross product of an edge that is not 0
 abbrev pub sign_of_edge : List Point → ℕ → Option Bool
 sign_of_edge vs e = first_below (length vs) (λ v. sign (cross_at vs e v))
 
+-- the sign of the first cross product that is not 0, by edge and then by vertex
 abbrev pub inner_sign : List Point → Option Bool
 inner_sign vs = first_below (length vs) (sign_of_edge vs)
 
@@ -67,10 +68,11 @@ abbrev pub is_other : Bool → ℤ → Bool
 is_other true z = int_lt z (pos 0)
 is_other false z = int_lt (pos 0) z
 
--- the first edge and vertex whose cross product has the other sign
+-- the first vertex whose cross product with an edge has the other sign
 abbrev pub other_of_edge : Bool → List Point → ℕ → Option ℕ
 other_of_edge left vs e = first_below (length vs) (λ v. where_so (is_other left (cross_at vs e v)) v)
 
+-- the first edge and vertex whose cross product has the other sign
 abbrev pub first_other : Bool → List Point → Option (ℕ × ℕ)
 first_other left vs = first_below (length vs) (λ e. option_map (λ v. (e, v)) (other_of_edge left vs e))
 
@@ -99,6 +101,7 @@ leftwards (Some false) vs = backwards vs
 leftwards (Some true) vs = vs
 leftwards None vs = vs
 
+-- the fault, where there is one, and else the points
 abbrev pub unless : Option ShapeFault → List Point → Result (List Point) ShapeFault
 unless (Some fault) vs = Err fault
 unless None vs = Ok vs

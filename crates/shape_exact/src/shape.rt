@@ -7,14 +7,20 @@ use crate::corner::upper_corner;
 use arrayvec::ArrayVec;
 use std::marker::Model;
 
-/// Why a list of points is no footprint.
+/// Why a list of points is no footprint, with numbers of vertices and of edges; edge e goes from vertex e to the next.
 #[derive(Clone, Copy, Debug, PartialEq, Eq)]
 pub enum ShapeFault {
+    /// Fewer than 3 points.
     TooFew,
+    /// More than 16 points.
     TooMany,
+    /// The first vertex with a coordinate below -1000 or above 1000.
     Range(u8),
+    /// The first pair of equal vertices.
     Equal(u8, u8),
+    /// The first edge and vertex whose cross product has another sign than the first one that is not 0.
     NotConvex(u8, u8),
+    /// All cross products are 0.
     Flat,
 }
 
