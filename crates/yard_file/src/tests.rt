@@ -23,6 +23,8 @@ const PLATE: &str = "{name='P',width=4,height=3}";
 
 const BLOCK: &str = "{name='A',shape=[[0,0],[2,0],[2,2],[0,2]],duration=2,due=1}";
 
+const UNIT: &str = "{name='A',shape=[[0,0],[1,0],[1,1],[0,1]],duration=1,due=1}";
+
 #[test]
 fn reads_the_yard(rt: HostRuntime) -> Result<(), Fail> {
     let yard = read_yard(rt.alloc(), SQUARE.as_bytes())?;
@@ -211,6 +213,12 @@ fn counts_plates_and_blocks(rt: HostRuntime) -> Result<(), Fail> {
 
 #[test]
 fn says_the_refusal(rt: HostRuntime) -> Result<(), Fail> {
+    let heavy = text_of(
+        rt.alloc(),
+        "version=1\ndays=256",
+        "{name='P',width=64,height=65}",
+        UNIT,
+    )?;
     let long = vec![in rt.alloc(); b' '; 1_048_577]?;
     for (bytes, line) in [
         (long.as_slice(), "refused yard 1 TooLong\n"),
