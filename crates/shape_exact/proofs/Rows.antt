@@ -1,5 +1,5 @@
 -- Worked examples of the definitions.
-use Rattle.std.specs.Prelude.{◌≡◌, ℤ, pos, negsuc, List, [], ◌∷◌, Ok, Err, true, false, refl}
+use Rattle.std.specs.Prelude.{◌≡◌, ℤ, pos, negsuc, [], ◌∷◌, Ok, Err, false, refl}
 use Rattle.shape_exact.specs.declared.point.Point.{Point}
 use Rattle.shape_exact.specs.declared.shape.ShapeFault.TheVariants.{TooFew, Range, Equal, NotConvex, Flat}
 use Rattle.shape_exact.specs.Reading.{shape_of}
