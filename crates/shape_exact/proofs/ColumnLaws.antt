@@ -57,7 +57,7 @@ one_if b = if b then 1 else 0
 one_when : (b : Bool) → b ≡ true → one_if b ≡ 1
 one_when b e = ap one_if e
 
-none_when : (b : Bool) → (b ≡ true → ⊥) → one_if b ≡ 0
+pub none_when : (b : Bool) → (b ≡ true → ⊥) → one_if b ≡ 0
 none_when true h = absurd (h refl)
 none_when false h = refl
 

@@ -22,6 +22,7 @@ pub mod ZipLaws
 pub mod BridgeLaws
 pub mod ApartLaws
 pub mod ColumnLaws
+pub mod PlaceLaws
 pub mod YardLaws
 pub mod ShapeLaws
 pub mod CornerLaws

@@ -155,6 +155,11 @@ least_le_greatest f v vs =
     let a = (fold-int_min_bounds (f v) (map f vs) (least f (v ∷ vs)) refl).0 in
     let b = (fold-int_max_bounds (f v) (map f vs) (greatest f (v ∷ vs)) refl).0 in omega (arith, ints, a, b)
 
+pub high_x : (vs : List Point) → IsNormal vs → greatest (λ p. p.x) vs ≡ pos (reach_x vs)
+high_x vs n = not_below (greatest (λ p. p.x) vs)
+    (subst (λ z. z ≤ℤ greatest (λ p. p.x) vs) n.low_x
+    (subst (λ ws. least (λ p. p.x) ws ≤ℤ greatest (λ p. p.x) ws) (sym n.is) (least_le_greatest (λ p. p.x) n.first n.others)))
+
 pub high_y : (vs : List Point) → IsNormal vs → greatest (λ p. p.y) vs ≡ pos (reach_y vs)
 high_y vs n = not_below (greatest (λ p. p.y) vs)
     (subst (λ z. z ≤ℤ greatest (λ p. p.y) vs) n.low_y

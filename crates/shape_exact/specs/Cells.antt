@@ -1,8 +1,9 @@
 -- The columns of a row of cells.
-use Rattle.std.specs.Prelude.{ℤ, pos, ◌+ℤ◌, ◌*ℤ◌, ◌≤ℤ◌}
+use Rattle.std.specs.Prelude.{ℕ, ℤ, pos, ◌+ℤ◌, ◌*ℤ◌, ◌≤ℤ◌, List, if◌then◌else◌}
 use Rattle.shape_exact.specs.declared.cells.Stretch.{Stretch}
 use Rattle.shape_exact.specs.declared.point.Point.{Point}
-use Rattle.shape_exact.specs.Shapes.{Spot}
+use Rattle.shape_exact.specs.Each.{sum_below}
+use Rattle.shape_exact.specs.Shapes.{Spot, centre, is_inside}
 
 -- the number is one of the stretch
 abbrev pub Holds : Stretch → ℤ → Type 0
@@ -15,3 +16,7 @@ centre_of i j = record { x = pos 2 *ℤ i +ℤ pos 1; y = pos 2 *ℤ j +ℤ pos 
 -- the spot after a shift
 abbrev pub moved_spot : Point → Spot → Spot
 moved_spot by s = record { x = s.x +ℤ pos s.n *ℤ by.x; y = s.y +ℤ pos s.n *ℤ by.y; n = s.n }
+
+-- how many cells of a rectangle, so wide and so high, have their centre strictly inside the shape at its place
+abbrev pub cells_on : ℕ → ℕ → List Point → Point → ℕ
+cells_on width height shape at = sum_below height (λ j. sum_below width (λ i. if is_inside shape at (centre i j) then 1 else 0))

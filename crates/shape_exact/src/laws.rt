@@ -1,8 +1,8 @@
 //! Laws of footprints, each the contract of a function that does nothing.
-ghost use Rattle.std.specs.Prelude.{◌≡◌, ◌≤◌, ◌↔◌, ℤ, IsTrue};
-ghost use Rattle.shape_exact.specs.Shapes.{AreApart, Spot, cells, is_inside, turned};
+ghost use Rattle.std.specs.Prelude.{◌≡◌, ◌≤◌, ◌+◌, ◌↔◌, ℤ, pos, IsTrue};
+ghost use Rattle.shape_exact.specs.Shapes.{AreApart, Spot, cells, is_inside, reach_x, reach_y, turned};
 ghost use Rattle.shape_exact.specs.Separation.{moved};
-ghost use Rattle.shape_exact.specs.Cells.{centre_of, moved_spot};
+ghost use Rattle.shape_exact.specs.Cells.{cells_on, centre_of, moved_spot};
 
 use crate::{Point, Shape};
 
@@ -21,10 +21,19 @@ pub fn four_turns_return(shape: &Shape)
     let _ = shape.points();
 }
 
-/// A spot that is shifted with the shape stays strictly inside it, or not; so a whole shift keeps the cells.
+/// A spot that is shifted with the shape stays strictly inside it, or outside it.
 pub fn shift_keeps_inside(shape: &Shape, at: Point, by: Point)
     ensures { (s : Spot) → is_inside shape.now (moved by at) (moved_spot by s) ≡ is_inside shape.now at s }
 {}
+
+/// A shape that stands within a rectangle, so wide and so high, has as many cells there as where it lies.
+pub fn shift_keeps_cells(shape: &Shape, x: u16, y: u16, width: u16, height: u16)
+    requires wide { x + reach_x shape.now ≤ width }
+    requires high { y + reach_y shape.now ≤ height }
+    ensures { cells_on width height shape.now (record { x = pos x; y = pos y }) ≡ cells shape.now }
+{
+    let _ = shape.points();
+}
 
 /// Apart is the same from either side.
 pub fn apart_either_way(a: &Shape, at_a: Point, b: &Shape, at_b: Point)

@@ -24,7 +24,8 @@ mod yard;
 pub use block::Block;
 pub use day_list::DayList;
 pub use laws::{
-    apart_either_way, apart_shares_no_cell, four_turns_return, shift_keeps_inside, turn_keeps_cells,
+    apart_either_way, apart_shares_no_cell, four_turns_return, shift_keeps_cells,
+    shift_keeps_inside, turn_keeps_cells,
 };
 pub use memory::NoMemory;
 pub use name::Name;
