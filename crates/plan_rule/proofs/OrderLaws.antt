@@ -32,7 +32,7 @@ lex_cases (c ∷ p) (d ∷ q) e = elim (cases_order c d) [
   ]
 ]
 
-lex_trans : (p q r : List ℕ) → IsLexLess p q → IsLexLess q r → IsLexLess p r
+pub lex_trans : (p q r : List ℕ) → IsLexLess p q → IsLexLess q r → IsLexLess p r
 lex_trans p q r h k = elim (cases_order h.place k.place) [
   | inl e ↦
       let l : code_of p k.place < code_of q k.place = subst (λ x. code_of p x < code_of q x) e h.less in

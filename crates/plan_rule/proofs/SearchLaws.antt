@@ -7,7 +7,7 @@ use Rattle.plan_rule.specs.Plans.{code_of, IsPlan, IsBefore, IsBest, IsAnswer, E
 use Rattle.plan_rule.proofs.OrderLaws.{before_trans}
 
 -- a plan extends a front with its own next code
-child : (front q : List ℕ) → Extends front q → Extends (front ++ code_of q (length front) ∷ []) q
+pub child : (front q : List ℕ) → Extends front q → Extends (front ++ code_of q (length front) ∷ []) q
 child front q h b l = elim (cases_lt b (length front)) [
   | inl below ↦ get_or_append_left front (code_of q (length front) ∷ []) 0 b below ∙ h b below
   | inr last ↦

@@ -10,6 +10,10 @@ use Rattle.code_table.specs.Placements.{placements}
 abbrev pub place_of : Placement → Point
 place_of p = record { x = pos p.x; y = pos p.y }
 
+-- the plate is the same, and the spans share a day
+abbrev pub MayMeet : Placement → Placement → Type 0
+MayMeet p q = (p.plate ≡ q.plate) × (p.start ≤ q.end) × (q.start ≤ p.end)
+
 -- the plate is the same, the spans share a day, and the turned shapes at their places are not apart
 pub record Meet (one : Block) (p : Placement) (two : Block) (q : Placement) : Type 0 where
   pub plate : p.plate ≡ q.plate

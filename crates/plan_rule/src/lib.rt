@@ -1,6 +1,8 @@
 //! Plans: one code for each block, their clashes, their order and the best one; plans as numbers, and boxes of plans.
 #![tactic(auto)]
 
+mod blocks;
+mod clashes;
 mod counts;
 mod job;
 mod laws;
@@ -11,13 +13,16 @@ mod plan;
 mod plan_box;
 mod region;
 
+pub use blocks::block_count;
+pub use clashes::{clash, first_clash};
 pub use job::{Job, halves};
 pub use laws::{
     base_is_sound, energy_is_sound, fit_is_sound, keys_are_small, keys_follow_order,
     paths_follow_codes, region_box_holds_region, reports_give_best,
 };
 pub use literal::Literal;
+pub use order::{before, total};
 pub use path_number::path;
-pub use plan::Plan;
+pub use plan::{Plan, best_is_one};
 pub use plan_box::PlanBox;
 pub use region::{Prefix, Region, region_of};
