@@ -1,3 +1,4 @@
+pub mod AcceptedLaws
 pub mod AppendedLaws
 pub mod CiteLaws
 pub mod ListLaws

@@ -6,6 +6,7 @@
 mod capsule;
 mod cites;
 mod fault;
+mod laws;
 mod lines;
 mod lists;
 mod log;
@@ -18,6 +19,7 @@ mod writing;
 pub use capsule::Capsule;
 pub use cites::Cites;
 pub use fault::LogFault;
+pub use laws::accepted_is_best;
 pub use log::Log;
 pub use reading::read_log;
 pub use record::Record;
