@@ -22,7 +22,7 @@ pub use laws::{
 };
 pub use literal::Literal;
 pub use order::{before, total};
-pub use path_number::path;
+pub use path_number::{key, path};
 pub use plan::{Plan, best_is_one};
 pub use plan_box::PlanBox;
 pub use region::{Prefix, Region, region_of};

@@ -1,12 +1,12 @@
 //! Path numbers and keys.
-ghost use Rattle.std.specs.Prelude.{◌≡◌, ◌<◌, ◌++◌, List, Bool};
+ghost use Rattle.std.specs.Prelude.{◌≡◌, ◌<◌, ◌^◌, ◌++◌, List, Bool};
 ghost use Rattle.plan_rule.specs.Bits.{IsOpen, filled, code_bits};
-ghost use Rattle.plan_rule.specs.Paths.{path};
+ghost use Rattle.plan_rule.specs.Paths.{key, path};
 ghost use Rattle.plan_rule.specs.Plans.{IsPlan};
 ghost use Rattle.plan_rule.specs.Yards.{choices};
 
-use crate::Plan;
 use crate::counts::count_of;
+use crate::{Plan, keys_are_small, total};
 use code_table::Codes;
 
 /// A number of 32 bits that is filled from the highest bit down: what it is so far, and how many bits are left.
@@ -55,4 +55,14 @@ pub fn path(codes: &Codes, plan: &Plan) -> u32
         bits = with_halvings(bits, count_of(codes, block), *code);
     }
     bits.number
+}
+
+/// The key of a plan: its total times 2^32, plus its path number. It is below the greatest number of 64 bits.
+pub fn key(codes: &Codes, plan: &Plan) -> u64
+    requires { IsPlan (choices codes.now) plan.now }
+    ensures value { result ≡ key (choices codes.now) plan.now }
+    ensures below { result < 2 ^ 63 }
+{
+    keys_are_small(codes);
+    u64::from(total(codes, plan)) * 0x1_0000_0000 + u64::from(path(codes, plan))
 }
