@@ -8,3 +8,5 @@ pub mod ReadLaws
 pub mod TableLaws
 pub mod SpotLaws
 pub mod CostLaws
+pub mod OrderLaws
+pub mod CodeLaws

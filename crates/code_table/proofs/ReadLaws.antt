@@ -1,7 +1,7 @@
 -- What the plates, the calendars and the turned shapes of a yard say of a stand.
 use Rattle.std.proofs.Common.{◌≡◌, ℕ, zero, suc, ◌∷◌, ◌*◌, ◌≤◌, ◌<◌, List, [], length, get_or, map, Option, Some, None, refl, sym, ap, ◌∙◌, subst, arith, Bool, true, false}
 use Rattle.std.specs.Prelude.{slice_get, unwrap_or, IfNone, IfSome, All}
-use Rattle.std.proofs.lemmas.Option.{same_Some, slice_get_read, slice_get-map, unwrap_or-slice_get, get_or_from_slice_get, slice_get_within}
+use Rattle.std.proofs.lemmas.Option.{none-some, same_Some, slice_get_read, slice_get-map, unwrap_or-slice_get, get_or_from_slice_get, slice_get_within}
 use Rattle.std.proofs.lemmas.List.{length-map}
 use Rattle.std.proofs.lemmas.List.Elements.{All-get_or}
 use Rattle.std.specs.Option.{option_map}
@@ -91,6 +91,22 @@ ends_some yard block start p plate opens (Some e) l at same is =
 pub same_plate : (yard : PlainYard) (block : Block) (start p end : ℕ) (plate : Plate) (e : EndsOn yard block start p end)
     → slice_get yard.plates p ≡ Some plate → e.plate ≡ plate
 same_plate yard block start p end plate e at = same_Some e.plate plate (sym e.plate_is ∙ at)
+
+-- a start with no end has none
+pub ends_never : (yard : PlainYard) (block : Block) (start p : ℕ) (plate : Plate) (opens : List ℕ) (o : Option ℕ)
+    → slice_get yard.plates p ≡ Some plate → opens ≡ open_days yard.days plate.closed → o ≡ end_of opens start block.duration
+    → IfNone o ((end : ℕ) → EndsOn yard block start p end → ⊥)
+ends_never yard block start p plate opens (Some e) at same is = tt
+ends_never yard block start p plate opens None at same is = λ end e.
+    let f : e.plate ≡ plate = same_plate yard block start p end plate e at in
+    none-some end (is ∙ ap (λ ds. end_of ds start block.duration) same
+    ∙ sym (ap (λ (pl : Plate). end_of (open_days yard.days pl.closed) start block.duration) f) ∙ e.end_is)
+
+-- one start has one end
+pub one_end : (yard : PlainYard) (block : Block) (start p a b : ℕ) → EndsOn yard block start p a → EndsOn yard block start p b → a ≡ b
+one_end yard block start p a b e f =
+    let same : e.plate ≡ f.plate = same_plate yard block start p a f.plate e f.plate_is in
+    same_Some a b (sym e.end_is ∙ ap (λ (pl : Plate). end_of (open_days yard.days pl.closed) start block.duration) same ∙ f.end_is)
 
 -- how many placements a stand has: none in a turn that the block may not have
 pub len_turnless : (yard : PlainYard) (block : Block) (k start p turn end : ℕ) → start ≡ stand_start yard k → p ≡ stand_plate yard k

@@ -5,11 +5,14 @@ ghost use Rattle.shape_exact.specs.Shapes.{turned, cells};
 ghost use Rattle.shape_exact.specs.declared.block.Block.{Block};
 ghost use Rattle.shape_exact.specs.declared.plate.Plate.{Plate};
 ghost use Rattle.plate_calendar.specs.Calendars.{open_days};
+ghost use Rattle.code_table.specs.Codes.{IsCode};
+ghost use Rattle.code_table.specs.Orders.{AreAscending};
 ghost use Rattle.code_table.specs.Costs.{IsAtMostEachCost, IsCostOfSome};
 ghost use Rattle.code_table.specs.Placements.{placements, own_cost, IsPlacement};
 ghost use Rattle.code_table.specs.Spots.{IsSpot};
 ghost use Rattle.code_table.specs.Tables.{IsTable};
 
+use crate::code::code_of;
 use crate::placement::Placement;
 use crate::spot::{Spot, place_at, spot_of};
 use crate::stand::calendars_of;
@@ -152,6 +155,27 @@ impl Codes {
         let plates = self.yard().plates();
         let plate = &plates[spot.plate as usize];
         place_at(plate, self.shape(block, spot.turn), spot)
+    }
+
+    /// The code of a placement. None where it is no placement of the block.
+    pub fn code(&self, block: u8, placement: &Placement) -> Option<u32>
+        requires { block < length self.now.blocks }
+        ensures value { IsCode (placements self.now block) placement.now result }
+        ensures within { IfSome result (λ c. c < length (placements self.now block)) }
+    {
+        let table = self.table(block);
+        let yard = self.yard();
+        let blocks = yard.blocks();
+        let block = &blocks[block as usize];
+        code_of(yard, self.calendars.as_slice(), block, table, placement)
+    }
+
+    /// A law: the codes of a block ascend by start, then plate, then turn, then y, then x.
+    pub fn codes_ascend(&self, block: u8)
+        requires { block < length self.now.blocks }
+        ensures { AreAscending (placements self.now block) }
+    {
+        let _yard = self.yard();
     }
 
     /// What a code costs: the weight for each day from the due day to its end.

@@ -23,6 +23,7 @@ pub(crate) fn stand_end(
     requires duration { 1 ≤ block.now.duration }
     requires plate { at.plate < length yard.now.plates }
     ensures none { IfNone result ((turn : ℕ) → stand_at yard.now block.now at.start at.plate turn ≡ []) }
+    ensures endless { IfNone result ((end : ℕ) → EndsOn yard.now block.now at.start at.plate end → ⊥) }
     ensures some { IfSome result (λ end. EndsOn yard.now block.now at.start at.plate end) }
 {
     if at.start < block.release {

@@ -4,6 +4,7 @@
 //! that order. The list is never made: a code is computed from a placement and a placement from a code.
 #![tactic(auto)]
 
+mod code;
 mod codes;
 mod count;
 mod grid;

@@ -69,3 +69,15 @@ pub(crate) fn nth_stand(yard: &Yard, k: u32) -> Stand
         turn: (within % 4) as u8,
     }
 }
+
+/// The number of a stand.
+pub(crate) fn number_of(yard: &Yard, at: Stand) -> u32
+    requires start { at.start < yard.now.days }
+    requires plate { at.plate < length yard.now.plates }
+    requires turn { at.turn < 4 }
+    ensures value { result ≡ at.start * (length yard.now.plates * 4) + (at.plate * 4 + at.turn) }
+    ensures within { result < stands yard.now }
+{
+    let per_day = yard.plates().len() as u32 * 4;
+    at.start as u32 * per_day + (at.plate as u32 * 4 + at.turn as u32)
+}
