@@ -1,0 +1,4 @@
+pub mod FrontLaws
+pub mod WalkLaws
+pub mod NodeLaws
+pub mod TailLaws

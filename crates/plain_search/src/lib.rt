@@ -1,0 +1,9 @@
+//! The plain search: plans in the order of their codes, depth first, and the best one kept.
+#![tactic(auto)]
+
+mod best;
+mod hand;
+mod search;
+mod tails;
+
+pub use best::best_plan;
