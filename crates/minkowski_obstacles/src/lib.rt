@@ -15,3 +15,6 @@ mod sides;
 mod stretch;
 
 pub use obstacle::Obstacle;
+
+#[cfg(test)]
+mod tests;
