@@ -19,4 +19,5 @@ moved_spot by s = record { x = s.x +ℤ pos s.n *ℤ by.x; y = s.y +ℤ pos s.n 
 
 -- how many cells of a rectangle, so wide and so high, have their centre strictly inside the shape at its place
 abbrev pub cells_on : ℕ → ℕ → List Point → Point → ℕ
-cells_on width height shape at = sum_below height (λ j. sum_below width (λ i. if is_inside shape at (centre i j) then 1 else 0))
+cells_on width height shape at =
+    sum_below height (λ j. sum_below width (λ i. if is_inside shape at (centre i j) then 1 else 0))

@@ -58,7 +58,8 @@ fn sees(from: Point, to: Point, vertices: &[Point], by: Point) -> bool
 pub(crate) fn end_of(vertices: &[Point], i: usize) -> Point
     requires i { i < length vertices.now }
     requires vertices { All (IsWithin 2000) vertices.now }
-    ensures edge { (d : Point × Point) → slice_index_or (edges vertices.now) i d ≡ (slice_index_or vertices.now i d.0, result) }
+    ensures edge { (d : Point × Point)
+        → slice_index_or (edges vertices.now) i d ≡ (slice_index_or vertices.now i d.0, result) }
     ensures within { IsWithin 2000 result }
 {
     if i + 1 < vertices.len() {

@@ -6,7 +6,8 @@ ghost use Rattle.shape_exact.specs.Shapes.{turned};
 use crate::{Point, Shape};
 use arrayvec::ArrayVec;
 
-/// The points after a quarter turn counterclockwise, which takes (x, y) to (-y, x), and a shift to the right by `height`.
+/// The points after a quarter turn counterclockwise, which takes (x, y) to (-y, x), and a shift to the right by
+/// `height`.
 fn turn_once(points: &[Point], height: i32) -> ArrayVec<Point, 16>
     requires few { length points.now ≤ 16 }
     requires height { (pos 0 ≤ℤ height) }
