@@ -5,5 +5,7 @@ mod best;
 mod hand;
 mod search;
 mod tails;
+#[cfg(test)]
+mod tests;
 
 pub use best::best_plan;
