@@ -1,5 +1,5 @@
 -- What the first bits of a path number leave to choose.
-use Rattle.std.specs.Prelude.{◌≡◌, ◌≢◌, ℕ, ◌+◌, ◌*◌, ◌^◌, ◌<◌, ◌≤◌, Bool, true, List, [], ◌∷◌, ◌++◌, length, drop, Option, Some, None, ◌⊎◌, if◌then◌else◌}
+use Rattle.std.specs.Prelude.{◌≡◌, ◌≢◌, ℕ, suc, ◌+◌, ◌*◌, ◌^◌, ◌<◌, ◌≤◌, Bool, true, List, [], ◌∷◌, ◌++◌, length, drop, Option, Some, None, ◌⊎◌, if◌then◌else◌}
 use Rattle.plan_rule.specs.declared.region.Left.{Left}
 use Rattle.plan_rule.specs.Choices.{Choices, blocks, count}
 use Rattle.plan_rule.specs.Plans.{IsPlan, code_of}
@@ -17,7 +17,7 @@ abbrev pub InRange : ℕ → ℕ → List ℕ → Type 0
 InRange lo hi [] = Unit {0}
 InRange lo hi (code ∷ q) = (lo ≤ code) × (code < hi)
 
--- the bits of the codes that are left: m bits at most of the next block, within the range, and n at most of each later one
+-- the bits of the codes that are left: at most m of the next block, within the range, and at most n of each later one
 abbrev pub tail_of : ℕ → ℕ → ℕ → ℕ → List ℕ → List ℕ → List Bool
 tail_of n m lo hi [] q = []
 tail_of n m lo hi (count ∷ counts) [] = []
@@ -25,7 +25,8 @@ tail_of n m lo hi (count ∷ counts) (code ∷ q) = halvings m lo hi code ++ all
 
 -- the plans of an interval are those with this front and a next code in this range; `value` is the path number
 pub record IsPart (value : List ℕ → ℕ) (all : List ℕ) (n front w : ℕ) (exact : List ℕ) (m lo hi : ℕ) (counts : List ℕ) : Type 0 where
-  pub inside : (q : List ℕ) → AreCodes counts q → InRange lo hi q → value (exact ++ q) ≡ front + number_of w (tail_of n m lo hi counts q)
+  pub inside : (q : List ℕ) → AreCodes counts q → InRange lo hi q
+      → value (exact ++ q) ≡ front + number_of w (tail_of n m lo hi counts q)
   pub only : (p : List ℕ) → AreCodes all p → front ≤ value p → value p < front + 2 ^ w
       → (q : List ℕ) × (p ≡ exact ++ q) × AreCodes counts q × InRange lo hi q
 
@@ -56,3 +57,11 @@ abbrev pub IsHalf : Choices → ℕ → ℕ → Bool → Option Left → Type 0
 IsHalf c front w upper (Some half) = IsLeft c (if upper then front + 2 ^ w else front) w half
 IsHalf c front w upper None =
     (upper ≡ true) × ((q : List ℕ) → IsPlan c q → front + 2 ^ w ≤ path c q → path c q < front + 2 ^ w * 2 → ⊥)
+
+-- what was left of the plans of an interval is left still
+abbrev pub KeepsLeft : Choices → Left → Left → Type 0
+KeepsLeft c old new = (front w : ℕ) → IsLeft c front w old → IsLeft c front w new
+
+-- the half is what the next bit leaves of the plans of an interval
+abbrev pub HalvesLeft : Choices → Bool → Left → Option Left → Type 0
+HalvesLeft c upper old half = (front w : ℕ) → IsLeft c front (suc w) old → IsHalf c front w upper half

@@ -1,4 +1,5 @@
 //! Boxes of plans.
+ghost use Rattle.std.specs.List.{AllWithin};
 ghost use Rattle.std.specs.Prelude.{◌≡◌, ◌≤◌, ◌<◌, ◌↔◌, ℕ, IsTrue, IfOk, length, slice_index_or};
 ghost use Rattle.plan_rule.specs.declared.literal.Literal.{Literal};
 ghost use Rattle.plan_rule.specs.Yards.{choices};
@@ -117,7 +118,7 @@ fn is_whole(codes: &Codes, l: Literal) -> bool
 fn place_from(list: &[Literal], from: usize, block: u8) -> usize
     requires { from ≤ length list.now }
     ensures within { (from ≤ result) × (result ≤ length list.now) }
-    ensures before { (k : ℕ) (d : Literal) → from ≤ k → k < result → (slice_index_or list.now k d).block < block }
+    ensures before { AllWithin (λ l. l.block < block) list.now from result }
     ensures at { (d : Literal) → result < length list.now → block ≤ (slice_index_or list.now result d).block }
 {
     let mut at = from;

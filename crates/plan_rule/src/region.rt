@@ -1,7 +1,7 @@
 //! The plans of a job: the codes that its bits fix, and the range of the next block's codes.
-ghost use Rattle.std.specs.Prelude.{◌≡◌, ◌<◌, ◌≤◌, ℕ, suc, ◌++◌, ◌∷◌, [], length, IfSome};
+ghost use Rattle.std.specs.Prelude.{◌≡◌, ◌<◌, ◌≤◌, ◌++◌, ◌∷◌, [], length, IfSome};
 ghost use Rattle.plan_rule.specs.Choices.{blocks};
-ghost use Rattle.plan_rule.specs.Fronts.{HasCodes, IsHalf, IsLeft, IsRange, IsSettled};
+ghost use Rattle.plan_rule.specs.Fronts.{HalvesLeft, HasCodes, IsRange, IsSettled, KeepsLeft};
 ghost use Rattle.plan_rule.specs.Jobs.{IsJob};
 ghost use Rattle.plan_rule.specs.Regions.{IsRegion};
 ghost use Rattle.plan_rule.specs.Yards.{choices};
@@ -68,7 +68,7 @@ fn settle(codes: &Codes, left: Left) -> Left
     requires range { IsRange (choices codes.now) left }
     ensures range { IsRange (choices codes.now) result }
     ensures settled { IsSettled result }
-    ensures part { (front w : ℕ) → IsLeft (choices codes.now) front w left → IsLeft (choices codes.now) front w result }
+    ensures part { KeepsLeft (choices codes.now) left result }
 {
     let mut made = left;
     while made.hi - made.lo == 1 {
@@ -86,7 +86,7 @@ fn half_of(codes: &Codes, left: Left, upper: bool) -> Option<Left>
     requires range { IsRange (choices codes.now) left }
     requires settled { IsSettled left }
     ensures range { IfSome result (λ half. IsRange (choices codes.now) half × IsSettled half) }
-    ensures part { (front w : ℕ) → IsLeft (choices codes.now) front (suc w) left → IsHalf (choices codes.now) front w upper result }
+    ensures part { HalvesLeft (choices codes.now) upper left result }
 {
     let mut half = left;
     if half.hi == 0 {
