@@ -6,7 +6,9 @@ use Rattle.yard_io.specs.Desk.{Files, then_said, SaidFront}
 use Rattle.yard_file.specs.Reads.{yard_of}
 use Rattle.yard_file.specs.Lines.{line}
 use Rattle.yard_file.specs.declared.fault.YardFault.{YardFault}
-use Rattle.yard_file.specs.declared.fault.YardFault.TheVariants.{NotBuilt}
+use Rattle.plan_rule.specs.Plans.{IsBest}
+use Rattle.plan_rule.specs.Yards.{choices}
+use Rattle.plan_text.specs.Texts.{plan_text}
 
 -- the usage line is said with status 2
 abbrev pub IsUsage : ℕ → List ℕ → Type 0
@@ -16,10 +18,22 @@ IsUsage status text = (status ≡ 2) × (text ≡ codes "usage: plan YARD" ++ 10
 abbrev pub IsRefusal : YardFault → ℕ → List ℕ → Type 0
 IsRefusal fault status text = (status ≡ 1) × (text ≡ line fault)
 
--- the answer to what the bytes of a yard's file spell: its first refusal; no yard is built yet
+-- 0 for a plan and 3 for none
+abbrev pub status_of : Option (List ℕ) → ℕ
+status_of (Some plan) = 0
+status_of None = 3
+
+-- the text of the yard's best plan is said with status 0, or that no plan is feasible with status 3
+pub record PlansYard (yard : PlainYard) (status : ℕ) (text : List ℕ) : Type 0 where
+  pub best : Option (List ℕ)
+  pub is_best : IsBest (choices yard) best
+  pub status_is : status ≡ status_of best
+  pub text_is : text ≡ plan_text yard best
+
+-- the answer to what the bytes of a yard's file spell: the first refusal, or the yard's plan
 abbrev pub AnswersYard : Result PlainYard YardFault → ℕ → List ℕ → Type 0
 AnswersYard (Err fault) status text = IsRefusal fault status text
-AnswersYard (Ok yard) status text = IsRefusal NotBuilt status text
+AnswersYard (Ok yard) status text = PlansYard yard status text
 
 -- the answer to the bytes of a file: those that it has, where the desk tells them, and else those that it gave
 pub record AnswersFile (file : Option (List ℕ)) (status : ℕ) (text : List ℕ) : Type 0 where

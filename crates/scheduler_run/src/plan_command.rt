@@ -2,10 +2,14 @@
 ghost use Rattle.std.specs.Prelude.{◌≡◌, ◌≤◌, IfOk};
 ghost use Rattle.yard_io.specs.Desk.{Same, HasCause};
 ghost use Rattle.yard_file.specs.Reads.{yard_of};
-ghost use Rattle.scheduler_run.specs.Answers.{AnswersFile, AnswersYard};
+ghost use Rattle.scheduler_run.specs.Answers.{AnswersFile, AnswersYard, PlansYard};
+ghost use Rattle.scheduler_run.specs.Accepted.{CanBePlanned};
 
 use crate::reply::{Reply, refusal};
-use shape_exact::NoMemory;
+use code_table::Codes;
+use plain_search::best_plan;
+use plan_text::print_plan;
+use shape_exact::{NoMemory, Yard};
 use std::alloc::Global;
 use yard_file::{YardFault, read_yard};
 use yard_io::{Desk, Trouble, read_bytes};
@@ -13,12 +17,31 @@ use yard_io::{Desk, Trouble, read_bytes};
 /// The most bytes that a yard's file may have.
 const LONGEST: u64 = 1_048_576;
 
+/// The reply to a yard: its best plan, or that there is none.
+fn reply_to_yard(alloc: Global, yard: &Yard) -> Result<Reply, NoMemory>
+    requires { CanBePlanned yard.now }
+    ensures { IfOk result (λ reply. PlansYard yard.now reply.status reply.text.items) }
+{
+    let codes = Codes::new(alloc, yard)?;
+    let reply = match best_plan(alloc, &codes)? {
+        Some(plan) => Reply {
+            status: 0,
+            text: print_plan(alloc, &codes, Some(&plan))?,
+        },
+        None => Reply {
+            status: 3,
+            text: print_plan(alloc, &codes, None)?,
+        },
+    };
+    Ok(reply)
+}
+
 /// The reply to the bytes of a yard's file.
 fn reply_to_bytes(alloc: Global, bytes: &[u8]) -> Result<Reply, NoMemory>
     ensures { IfOk result (λ reply. AnswersYard (yard_of bytes.now) reply.status reply.text.items) }
 {
     match read_yard(alloc, bytes) {
-        Ok(_) => refusal(alloc, &YardFault::NotBuilt),
+        Ok(yard) => reply_to_yard(alloc, &yard),
         Err(YardFault::Memory) => Err(NoMemory),
         Err(fault) => refusal(alloc, &fault),
     }

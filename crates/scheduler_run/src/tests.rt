@@ -1,15 +1,17 @@
-//! Runs over desks in memory, and one over the real files.
+//! Runs over desks in memory, and one over the real files. The texts of the rows are worked by hand.
 ghost use Rattle.std.specs.Prelude.{◌≡◌};
 
 mod unread;
+mod yards;
 
 use crate::{Status, run, run_quietly};
 use std::test::Fail;
 use unread::UnreadDesk;
 use yard_io::{OpenGate, QuietDesk, RealDesk};
+use yards::*;
 
 #[test]
-fn answers(rt: HostRuntime) -> Result<(), Fail> {
+fn words_and_bytes(rt: HostRuntime) -> Result<(), Fail> {
     let cases: [(&[&str], &[u8], u8, &str); 5] = [
         (&[], b"", 2, "usage: plan YARD\n"),
         (&["plan"], b"", 2, "usage: plan YARD\n"),
@@ -41,6 +43,202 @@ fn answers(rt: HostRuntime) -> Result<(), Fail> {
         let ended = run_quietly(&rt, rt.alloc(), words, &mut desk);
         assert_eq!(rt; ended.0, status, "at {said}");
         assert_eq!(rt; desk.said(), said.as_bytes(), "at {said}");
+    }
+    Ok(())
+}
+
+/// The status, and whether the text was said, for the yard that these parts make.
+fn says(rt: &HostRuntime, parts: &[&str], said: &str) -> Option<(u8, bool)> {
+    let mut yard = Vec::new(rt.alloc());
+    for part in parts {
+        yard.extend_from_slice(part.as_bytes()).ok()?;
+    }
+    let mut desk = QuietDesk::new(rt.alloc(), 64).ok()?;
+    desk.put("y", yard.as_slice()).ok()?;
+    let ended = run_quietly(rt, rt.alloc(), &["plan", "y"], &mut desk);
+    Some((ended.0, desk.said() == said.as_bytes()))
+}
+
+const ONE_SQUARE: &str = "plan 1
+block A plate P turn 0 x 0 y 0 start 0 end 1 tardiness 0
+total 0
+";
+
+#[test]
+fn one_block(rt: HostRuntime) -> Result<(), Fail> {
+    let cases: [(&[&str], u8, &str); 7] = [
+        (
+            &[LONG, PLATE_64X65, A, CELL, ONE_DAY_DUE_1],
+            1,
+            "refused yard 17 TooManyPlacements 0 1064960\n",
+        ),
+        (
+            &[TEN_DAYS, PLATE_4X3, A, SQUARE_2, TWO_DAYS_DUE_1],
+            0,
+            ONE_SQUARE,
+        ),
+        (
+            &[TEN_DAYS, PLATE_4X3, A, SQUARE_2_CLOCKWISE, TWO_DAYS_DUE_1],
+            0,
+            ONE_SQUARE,
+        ),
+        (
+            &[TEN_DAYS, PLATE_1X3, A, SQUARE_2, TWO_DAYS_DUE_1],
+            3,
+            "no plan\n",
+        ),
+        (
+            &[TEN_DAYS, PLATE_4X3, A, NOT_CONVEX, TWO_DAYS_DUE_1],
+            1,
+            "refused yard 18 NotBuilt\n",
+        ),
+        (
+            &[TEN_DAYS, PLATE_CLOSED, A, SQUARE_2, FROM_4],
+            0,
+            "plan 1
+block A plate P turn 0 x 0 y 0 start 4 end 6 tardiness 0
+total 0
+",
+        ),
+        (
+            &[TEN_DAYS, PLATE_CLOSED, A, SQUARE_2, FROM_5],
+            0,
+            "plan 1
+block A plate P turn 0 x 0 y 0 start 6 end 7 tardiness 1
+total 1
+",
+        ),
+    ];
+    for (parts, status, said) in cases {
+        assert_eq!(rt; says(&rt, parts, said), Some((status, true)), "at {said}");
+    }
+    Ok(())
+}
+
+#[test]
+fn several_blocks(rt: HostRuntime) -> Result<(), Fail> {
+    let cases: [(&[&str], u8, &str); 6] = [
+        (
+            &[
+                TEN_DAYS,
+                PLATE_4X3,
+                A,
+                SQUARE_3,
+                TWO_DAYS_DUE_1,
+                "weight = 5\n",
+                B,
+                SQUARE_3,
+                TWO_DAYS_DUE_1,
+                "weight = 5\n",
+            ],
+            0,
+            "plan 1
+block A plate P turn 0 x 0 y 0 start 0 end 1 tardiness 0
+block B plate P turn 0 x 0 y 0 start 2 end 3 tardiness 2
+total 10
+",
+        ),
+        (
+            &[
+                TEN_DAYS,
+                PLATE_4X3,
+                A,
+                SQUARE_3,
+                TWO_DAYS_DUE_1,
+                B,
+                SQUARE_3,
+                TWO_DAYS_DUE_1,
+                "weight = 5\n",
+            ],
+            0,
+            "plan 1
+block A plate P turn 0 x 0 y 0 start 2 end 3 tardiness 2
+block B plate P turn 0 x 0 y 0 start 0 end 1 tardiness 0
+total 2
+",
+        ),
+        (
+            &[
+                ONE_DAY,
+                PLATE_4X4,
+                A,
+                TRIANGLE,
+                HALF_TURN,
+                ONE_DAY_DUE_0,
+                B,
+                TRIANGLE,
+                HALF_TURN,
+                ONE_DAY_DUE_0,
+            ],
+            0,
+            "plan 1
+block A plate P turn 0 x 0 y 0 start 0 end 0 tardiness 0
+block B plate P turn 2 x 0 y 0 start 0 end 0 tardiness 0
+total 0
+",
+        ),
+        (
+            &[
+                ONE_DAY,
+                PLATE_4X4,
+                A,
+                TRIANGLE,
+                ONE_DAY_DUE_0,
+                B,
+                TRIANGLE,
+                ONE_DAY_DUE_0,
+            ],
+            3,
+            "no plan\n",
+        ),
+        (
+            &[
+                TEN_DAYS,
+                PLATE_3X2,
+                A,
+                SQUARE_2,
+                TWO_DAYS_DUE_1,
+                "weight = 2\n",
+                B,
+                COLUMN,
+                TWO_DAYS_DUE_1,
+                "weight = 3\n",
+                C,
+                CELL,
+                ONE_DAY_DUE_1,
+                "weight = 4\n",
+            ],
+            0,
+            "plan 1
+block A plate P turn 0 x 0 y 0 start 1 end 2 tardiness 1
+block B plate P turn 0 x 2 y 0 start 0 end 1 tardiness 0
+block C plate P turn 0 x 0 y 0 start 0 end 0 tardiness 0
+total 2
+",
+        ),
+        (
+            &[
+                TWO_DAYS,
+                PLATE_3X2,
+                A,
+                SQUARE_2,
+                TWO_DAYS_DUE_1,
+                "weight = 2\n",
+                B,
+                COLUMN,
+                TWO_DAYS_DUE_1,
+                "weight = 3\n",
+                C,
+                CELL,
+                ONE_DAY_DUE_1,
+                "weight = 4\n",
+            ],
+            3,
+            "no plan\n",
+        ),
+    ];
+    for (parts, status, said) in cases {
+        assert_eq!(rt; says(&rt, parts, said), Some((status, true)), "at {said}");
     }
     Ok(())
 }

@@ -1,5 +1,5 @@
 //! The top call.
-ghost use Rattle.std.specs.Prelude.{◌≡◌, ◌≢◌, ◌≤◌, ◌⊎◌, ℕ, List, IfOk, map, option_map};
+ghost use Rattle.std.specs.Prelude.{◌≡◌, ◌≢◌, ◌≤◌, ◌⊎◌, ◌↔◌, ℕ, List, IfOk, map, option_map};
 ghost use Rattle.yard_io.specs.Desk.{Same, SameFiles, HasCause, Rose, SaidFront, then_said};
 ghost use Rattle.scheduler_run.specs.Answers.{Answers, yard_word, IsAnswered, IsCutShort, SaysAnswer, SaysFront};
 
@@ -57,6 +57,7 @@ fn give<D: Desk>(reply: &Reply, desk: &mut D) -> Status
 ///
 /// The whole answer is made before the first byte of it is said. Status 4 is a fault of reading, 5 a fault of writing,
 /// 6 want of memory, of the product's own or of the desk; no clause says when memory is wanting.
+#[tactic(auto, using(crate::proofs::AnswerLaws::usage_status))]
 pub fn run<R: Threads + Sync, D: Desk, G: Gate + Sync>(
     _rt: &R,
     alloc: Global,
@@ -66,6 +67,7 @@ pub fn run<R: Threads + Sync, D: Desk, G: Gate + Sync>(
 ) -> Status
     ensures answer { IsAnswered result.0 →
         SaysAnswer (map (λ w. w.now) words.now) (D.file desk.old) result.0 (D.said desk.old) (D.said desk.new) }
+    ensures usage { IsAnswered result.0 → (result.0 ≡ 2) ↔ (yard_word (map (λ w. w.now) words.now) ≡ None) }
     ensures read_fault { result.0 ≡ 4 → Rose (D.read_faults desk.old) (D.read_faults desk.new) }
     ensures write_fault { result.0 ≡ 5 → Rose (D.write_faults desk.old) (D.write_faults desk.new) }
     ensures silent { result.0 ≡ 4 → D.said desk.new ≡ D.said desk.old }
