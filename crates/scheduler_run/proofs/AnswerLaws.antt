@@ -4,7 +4,7 @@ use Rattle.shape_exact.specs.Yards.{PlainYard}
 use Rattle.yard_io.specs.Desk.{Files}
 use Rattle.yard_file.specs.Reads.{yard_of}
 use Rattle.yard_file.specs.declared.fault.YardFault.{YardFault}
-use Rattle.scheduler_run.specs.Answers.{IsUsage, PlansYard, AnswersYard, AnswersFile, Answers, status_of, yard_word}
+use Rattle.scheduler_run.specs.Answers.{IsUsage, AnswersYard, AnswersFile, Answers, status_of, yard_word}
 
 plan_status : (best : Option (List ℕ)) (status : ℕ) → status ≡ status_of best → status ≡ 2 → ⊥
 plan_status None status is two = let wrong : 3 ≡ 2 = sym is ∙ two in cc

@@ -6,6 +6,7 @@ mod yards;
 
 use crate::{Status, run, run_quietly};
 use std::test::Fail;
+use std::thread::Threads;
 use unread::UnreadDesk;
 use yard_io::{OpenGate, QuietDesk, RealDesk};
 use yards::*;
@@ -48,7 +49,7 @@ fn words_and_bytes(rt: HostRuntime) -> Result<(), Fail> {
 }
 
 /// The status, and whether the text was said, for the yard that these parts make.
-fn says(rt: &HostRuntime, parts: &[&str], said: &str) -> Option<(u8, bool)> {
+fn says<R: Threads + Sync + AllocGlobal>(rt: &R, parts: &[&str], said: &str) -> Option<(u8, bool)> {
     let mut yard = Vec::new(rt.alloc());
     for part in parts {
         yard.extend_from_slice(part.as_bytes()).ok()?;
