@@ -25,3 +25,4 @@ pub mod ReportLaws
 pub mod CoverLaws
 pub mod Rows
 pub mod RegionBoxLaws
+pub mod TellLaws

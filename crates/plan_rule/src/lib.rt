@@ -23,6 +23,6 @@ pub use laws::{
 pub use literal::Literal;
 pub use order::{before, total};
 pub use path_number::{key, path};
-pub use plan::{Plan, best_is_one};
+pub use plan::{Plan, best_exists, best_is_one};
 pub use plan_box::PlanBox;
 pub use region::{Prefix, Region, region_of};

@@ -1,6 +1,6 @@
 //! Plans.
-ghost use Rattle.std.specs.Prelude.{◌≡◌, IfOk, Some};
-ghost use Rattle.plan_rule.specs.Plans.{IsPlan, IsBest};
+ghost use Rattle.std.specs.Prelude.{◌≡◌, ℕ, List, IfOk, Some};
+ghost use Rattle.plan_rule.specs.Plans.{IsPlan, IsFeasible, IsBest};
 ghost use Rattle.plan_rule.specs.Yards.{choices};
 
 use code_table::Codes;
@@ -54,3 +54,11 @@ pub fn best_is_one(codes: &Codes, one: &Plan, two: &Plan)
     requires two { IsBest (choices codes.now) (Some two.now) }
     ensures { one.now ≡ two.now }
 {}
+
+/// Where a plan is feasible, there is a best one.
+pub fn best_exists(codes: &Codes, plan: &Plan)
+    requires { IsFeasible (choices codes.now) plan.now }
+    ensures { (best : List ℕ) × IsBest (choices codes.now) (Some best) }
+{
+    let _yard = codes.yard();
+}

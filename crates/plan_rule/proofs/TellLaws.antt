@@ -1,0 +1,101 @@
+-- It can be told which codes of a yard clash.
+use Rattle.std.proofs.Common.{◌≡◌, ℕ, zero, suc, List, [], ◌∷◌, Option, Some, None, ◌⊎◌, refl, sym, ◌∙◌, subst, inl, inr, arith}
+use lib.IntN.{ℤ, pos, negsuc}
+use Rattle.std.proofs.lemmas.Int.{ints}
+use Rattle.std.specs.Prelude.{slice_get, All, Any}
+use lib.Signed.{◌<ℤ◌, ◌≤ℤ◌}
+use Rattle.std.proofs.lemmas.Bool.{cases_lt, cases_order}
+use Rattle.std.proofs.lemmas.Option.{none-some, same_Some}
+use Rattle.std.proofs.lemmas.List.Elements.{All-nil, All-cons}
+use Rattle.shape_exact.specs.Shapes.{IsShape, AreApart, turned, edges, cross}
+use Rattle.shape_exact.specs.Separation.{HasSeparatingEdge, EachEdgeSees, moved, way}
+use Rattle.shape_exact.specs.Yards.{PlainYard, IsYard}
+use Rattle.shape_exact.specs.declared.point.Point.{Point}
+use Rattle.shape_exact.specs.declared.block.Block.{Block}
+use Rattle.shape_exact.proofs.ApartLaws.{separation, apart_both, shared, shared_not_apart}
+use Rattle.shape_exact.proofs.FormLaws.{shape-turned}
+use Rattle.code_table.specs.declared.placement.Placement.{Placement}
+use Rattle.code_table.specs.Placements.{placements}
+use Rattle.plan_rule.specs.Clashes.{place_of, Meet, Clash}
+use Rattle.plan_rule.specs.Yards.{choices}
+use Rattle.plan_rule.proofs.YardLaws.{block_of}
+use Rattle.plan_rule.proofs.ExistLaws.{IsDecided}
+
+-- of what is one or the other of each element, one is so of all, or the other of some
+all_or_any : {A : Type 0} (P Q : A → Type 0) → ((x : A) → P x ⊎ Q x) → (xs : List A) → All P xs ⊎ Any Q xs
+all_or_any P Q told [] = inl (All-nil P)
+all_or_any P Q told (x ∷ xs) = elim (told x) [
+  | inr q ↦ inr (0, x, omega arith, refl, q)
+  | inl p ↦ elim (all_or_any P Q told xs) [
+    | inl h ↦ inl (All-cons P x xs p h)
+    | inr some ↦ inr (suc some.0, some.1, (let l = some.2 in omega arith), some.3, some.4)
+  ]
+]
+
+positive_or_not : (z : ℤ) → (z ≤ℤ pos 0) ⊎ (pos 0 <ℤ z)
+positive_or_not (pos zero) = inl (omega (arith, ints))
+positive_or_not (pos (suc n)) = inr (omega (arith, ints))
+positive_or_not (negsuc n) = inl (omega (arith, ints))
+
+turn_round : {A B : Type 0} → A ⊎ B → B ⊎ A
+turn_round (inl a) = inr a
+turn_round (inr b) = inl b
+
+edge_or_sees : (a b : List Point) (by : Point) → HasSeparatingEdge a b by ⊎ EachEdgeSees a b by
+edge_or_sees a b by = turn_round (all_or_any
+    (λ e. Any (λ v. pos 0 <ℤ cross e.0 e.1 (moved by v)) b) (λ e. All (λ v. cross e.0 e.1 (moved by v) ≤ℤ pos 0) b)
+    (λ e. turn_round (all_or_any (λ v. cross e.0 e.1 (moved by v) ≤ℤ pos 0) (λ v. pos 0 <ℤ cross e.0 e.1 (moved by v))
+    (λ v. positive_or_not (cross e.0 e.1 (moved by v))) b)) (edges a))
+
+-- whether two shapes are apart
+apart_or_not : (a b : List Point) (p q : Point) → IsShape a → IsShape b → AreApart a p b q ⊎ (AreApart a p b q → ⊥)
+apart_or_not a b p q s t = elim (edge_or_sees a b (way p q)) [
+  | inl one ↦ inl (separation a b p q (let n = t.some in omega arith) one)
+  | inr first ↦ elim (edge_or_sees b a (way q p)) [
+    | inl other ↦ inl (apart_both b a q p (separation b a q p (let n = s.some in omega arith) other))
+    | inr second ↦ inr (shared_not_apart a b p q (shared a b p q s t first second))
+  ]
+]
+
+equal_or_not : (m n : ℕ) → (m ≡ n) ⊎ (m ≡ n → ⊥)
+equal_or_not m n = elim (cases_order m n) [
+  | inl e ↦ inl e
+  | inr differ ↦ inr (λ e. elim differ [ inl l ↦ absurd (omega arith) | inr l ↦ absurd (omega arith) ])
+]
+
+meet_or_not : (one : Block) (p : Placement) (two : Block) (q : Placement) → IsShape one.shape → IsShape two.shape
+    → Meet one p two q ⊎ (Meet one p two q → ⊥)
+meet_or_not one p two q s t = elim (equal_or_not p.plate q.plate) [
+  | inr other ↦ inr (λ m. other m.plate)
+  | inl plate ↦ elim (cases_lt q.end p.start) [
+    | inl before ↦ inr (λ m. let l = m.first_starts in absurd (omega arith))
+    | inr first ↦ elim (cases_lt p.end q.start) [
+      | inl after ↦ inr (λ m. let l = m.second_starts in absurd (omega arith))
+      | inr second ↦ elim (apart_or_not (turned p.turn one.shape) (turned q.turn two.shape) (place_of p) (place_of q)
+          (shape-turned p.turn one.shape s) (shape-turned q.turn two.shape t)) [
+            | inl apart ↦ inr (λ m. m.shapes apart)
+            | inr together ↦ inl (record { plate = plate; first_starts = first; second_starts = second; shapes = together })
+          ]
+    ]
+  ]
+]
+
+clash_by : (yard : PlainYard) (a x b y : ℕ) (one two : Option Block) (p q : Option Placement) → IsYard yard
+    → slice_get yard.blocks a ≡ one → slice_get yard.blocks b ≡ two → slice_get (placements yard a) x ≡ p → slice_get (placements yard b) y ≡ q
+    → Clash yard a x b y ⊎ (Clash yard a x b y → ⊥)
+clash_by yard a x b y None two p q is e f g h = inr (λ c. none-some c.one (sym e ∙ c.one_is))
+clash_by yard a x b y (Some one) None p q is e f g h = inr (λ c. none-some c.two (sym f ∙ c.two_is))
+clash_by yard a x b y (Some one) (Some two) None q is e f g h = inr (λ c. none-some c.p (sym g ∙ c.p_is))
+clash_by yard a x b y (Some one) (Some two) (Some p) None is e f g h = inr (λ c. none-some c.q (sym h ∙ c.q_is))
+clash_by yard a x b y (Some one) (Some two) (Some p) (Some q) is e f g h =
+    elim (meet_or_not one p two q (block_of yard a one is e).shape (block_of yard b two is f).shape) [
+      | inl meet ↦ inl (record { one = one; two = two; p = p; q = q; one_is = e; two_is = f; p_is = g; q_is = h; meet = meet })
+      | inr free ↦ inr (λ c. free
+          (subst (λ k. Meet k p two q) (same_Some _ _ (sym c.one_is ∙ e)) (subst (λ k. Meet c.one p k q) (same_Some _ _ (sym c.two_is ∙ f))
+          (subst (λ k. Meet c.one k c.two q) (same_Some _ _ (sym c.p_is ∙ g)) (subst (λ k. Meet c.one c.p c.two k) (same_Some _ _ (sym c.q_is ∙ h)) c.meet)))))
+    ]
+
+-- the clashes of a yard can be told
+pub told : (yard : PlainYard) → IsYard yard → IsDecided (choices yard)
+unfolding choices
+told yard is a x b y = clash_by yard a x b y (slice_get yard.blocks a) (slice_get yard.blocks b) (slice_get (placements yard a) x) (slice_get (placements yard b) y) is refl refl refl refl
