@@ -18,8 +18,10 @@ fn stretch_of(obstacle: &Obstacle, at: Point, row: u16, pitch: u16, columns: u16
     requires row { row ≤ 401 }
     ensures fits { IfSome result (FitsWithin columns) }
     ensures none { IfNone result ((k : ℕ) → k < columns → IsClear (place pitch row k) obstacle.now at) }
-    ensures held { IfSome result (λ s. (k : ℕ) → k < columns → s.from ≤ k → k < s.to → IsClear (place pitch row k) obstacle.now at → ⊥) }
-    ensures clear { IfSome result (λ s. (k : ℕ) → k < columns → Misses k s → IsClear (place pitch row k) obstacle.now at) }
+    ensures held { IfSome result (λ s. (k : ℕ) → k < columns → s.from ≤ k → k < s.to
+        → IsClear (place pitch row k) obstacle.now at → ⊥) }
+    ensures clear { IfSome result (λ s. (k : ℕ) → k < columns → Misses k s
+        → IsClear (place pitch row k) obstacle.now at) }
 {
     let y = i32::from(row * pitch);
     match obstacle.row(y - at.y) {

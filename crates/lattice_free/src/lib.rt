@@ -14,3 +14,6 @@ mod stretch;
 
 pub use free_points::FreePoints;
 pub use free_rows::FreeRows;
+
+#[cfg(test)]
+mod tests;

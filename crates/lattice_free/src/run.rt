@@ -67,7 +67,8 @@ fn first_column(run: &Run, pitch: u16, y: u16, x: u16) -> u16
     requires pitch { IsPitch pitch }
     requires run { IsRun run.now }
     ensures low { run.now.from ≤ result }
-    ensures before { (k : ℕ) → k < result → k < run.now.to → run.now.from ≤ k → is_from y x (place pitch run.now.row k) ≡ false }
+    ensures before { (k : ℕ) → k < result → k < run.now.to → run.now.from ≤ k
+        → is_from y x (place pitch run.now.row k) ≡ false }
     ensures at { result < run.now.to → is_from y x (place pitch run.now.row result) ≡ true }
 {
     let at = run.row * pitch;
