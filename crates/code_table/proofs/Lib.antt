@@ -9,4 +9,5 @@ pub mod TableLaws
 pub mod SpotLaws
 pub mod CostLaws
 pub mod OrderLaws
+pub mod EndLaws
 pub mod CodeLaws

@@ -1,5 +1,5 @@
 -- The order of placements.
-use Rattle.std.specs.Prelude.{◌≡◌, ℕ, ◌<◌, ◌⊎◌, List, Some, slice_get}
+use Rattle.std.specs.Prelude.{◌≡◌, ℕ, ◌<◌, ◌≤◌, ◌⊎◌, List, Some, slice_get}
 use Rattle.code_table.specs.declared.placement.Placement.{Placement}
 
 -- the first number is less, or the numbers are equal and what follows holds
@@ -15,3 +15,8 @@ ComesBefore p q =
 abbrev pub AreAscending : List Placement → Type 0
 AreAscending ps =
     (i j : ℕ) (p q : Placement) → i < j → slice_get ps i ≡ Some p → slice_get ps j ≡ Some q → ComesBefore p q
+
+-- of two placements of a list on one plate the later one ends no earlier
+abbrev pub EndsAscend : List Placement → Type 0
+EndsAscend ps =
+    (i j : ℕ) (p q : Placement) → i < j → slice_get ps i ≡ Some p → slice_get ps j ≡ Some q → p.plate ≡ q.plate → p.end ≤ q.end

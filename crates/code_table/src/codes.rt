@@ -6,7 +6,7 @@ ghost use Rattle.shape_exact.specs.declared.block.Block.{Block};
 ghost use Rattle.shape_exact.specs.declared.plate.Plate.{Plate};
 ghost use Rattle.plate_calendar.specs.Calendars.{open_days};
 ghost use Rattle.code_table.specs.Codes.{IsCode};
-ghost use Rattle.code_table.specs.Orders.{AreAscending};
+ghost use Rattle.code_table.specs.Orders.{AreAscending, EndsAscend};
 ghost use Rattle.code_table.specs.Costs.{IsAtMostEachCost, IsCostOfSome};
 ghost use Rattle.code_table.specs.Placements.{placements, own_cost, IsPlacement};
 ghost use Rattle.code_table.specs.Spots.{IsSpot};
@@ -170,10 +170,12 @@ impl Codes {
         code_of(yard, self.calendars.as_slice(), block, table, placement)
     }
 
-    /// A law: the codes of a block ascend by start, then plate, then turn, then y, then x.
+    /// A law: the codes of a block ascend by start, then plate, then turn, then y, then x, and on one plate a later code
+    /// ends no earlier.
     pub fn codes_ascend(&self, block: u8)
         requires { block < length self.now.blocks }
-        ensures { AreAscending (placements self.now block) }
+        ensures order { AreAscending (placements self.now block) }
+        ensures ends { EndsAscend (placements self.now block) }
     {
         let _yard = self.yard();
     }

@@ -14,6 +14,8 @@ mod search;
 mod spot;
 mod stand;
 mod table;
+#[cfg(test)]
+mod tests;
 
 pub use codes::Codes;
 pub use count::placement_count;
