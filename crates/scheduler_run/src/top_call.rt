@@ -1,6 +1,7 @@
 //! The top call.
 ghost use Rattle.std.specs.Prelude.{◌≡◌, ◌≢◌, ◌≤◌, ◌⊎◌, ◌↔◌, ℕ, List, IfOk, map, option_map};
 ghost use Rattle.yard_io.specs.Desk.{Same, SameFiles, HasCause, Rose, SaidFront, then_said};
+ghost use Rattle.yard_io.specs.QuietDesk.{file_of, said_of};
 ghost use Rattle.scheduler_run.specs.Answers.{Answers, yard_word, IsAnswered, IsCutShort, SaysAnswer, SaysFront};
 
 use crate::Status;
@@ -82,15 +83,19 @@ pub fn run<R: Threads + Sync, D: Desk, G: Gate + Sync>(
     }
 }
 
-/// A run over a desk whose counts of faults stay 0: it ends with no fault of reading or writing.
+/// A run over a desk whose counts of faults stay 0: it ends with no fault of reading or writing, and unless memory is
+/// wanting it says its answer whole.
 pub fn run_quietly<R: Threads + Sync>(
     rt: &R,
     alloc: Global,
     words: &[&str],
     desk: &mut QuietDesk,
 ) -> Status
+    ensures answer { result.0 ≢ 6 → SaysAnswer (map (λ w. w.now) words.now)
+        (file_of desk.old) result.0 (Some (said_of desk.old)) (Some (said_of desk.new)) }
     ensures read_fault { result.0 ≢ 4 }
     ensures write_fault { result.0 ≢ 5 }
+    ensures files { SameFiles (file_of desk.old) (file_of desk.new) }
 {
     run(rt, alloc, words, desk, &OpenGate)
 }
