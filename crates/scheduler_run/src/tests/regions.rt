@@ -1,0 +1,83 @@
+//! The regions of jobs on small yards, worked by hand.
+
+use super::yards::*;
+use code_table::Codes;
+use plan_rule::{Job, Region, halves, region_of};
+use std::alloc::Global;
+use yard_file::read_yard;
+
+fn coded(alloc: Global, bytes: &[u8]) -> Option<Codes> {
+    match read_yard(alloc, bytes) {
+        Ok(yard) => Codes::new(alloc, &yard).ok(),
+        Err(_) => None,
+    }
+}
+
+/// The codes of the yard that these parts make.
+fn codes_of(alloc: Global, parts: &[&str]) -> Option<Codes> {
+    let mut text = Vec::new(alloc);
+    for part in parts {
+        text.extend_from_slice(part.as_bytes()).ok()?;
+    }
+    coded(alloc, text.as_slice())
+}
+
+/// Whether the job of this word leaves these codes of the first blocks and this range of the next; None where it leaves
+/// no plan.
+fn leaves(codes: &Codes, word: u64, wanted: Option<(&[u32], u32, u32)>) -> bool {
+    let Some(job) = Job::of_word(word) else {
+        return false;
+    };
+    match region_of(codes, job) {
+        Region::Empty => wanted.is_none(),
+        Region::Part { exact, lo, hi } => match wanted {
+            Some((first, from, to)) => exact.codes() == first && lo == from && hi == to,
+            None => false,
+        },
+    }
+}
+
+#[test]
+fn regions_of_two_blocks(rt: HostRuntime) {
+    let parts = [
+        TEN_DAYS,
+        PLATE_4X3,
+        A,
+        SQUARE_3,
+        TWO_DAYS_DUE_1,
+        B,
+        SQUARE_3,
+        TWO_DAYS_DUE_1,
+    ];
+    let rows: [(u64, Option<(&[u32], u32, u32)>); 5] = [
+        (0, Some((&[], 0, 18))),
+        (4, Some((&[0], 0, 18))),
+        (8_589_934_597, Some((&[0], 9, 18))),
+        (4_294_967_304, Some((&[0, 4], 0, 0))),
+        (4_831_838_217, None),
+    ];
+    let Some(codes) = codes_of(rt.alloc(), &parts) else {
+        assert!(rt; false, "the yard has codes");
+        return;
+    };
+    for (word, wanted) in rows {
+        assert!(rt; leaves(&codes, word, wanted), "at {word}");
+    }
+    match halves(Job::root()) {
+        Some((lower, upper)) => {
+            assert_eq!(rt; lower.word(), 1);
+            assert_eq!(rt; upper.word(), 137_438_953_473);
+        }
+        None => assert!(rt; false, "the root has halves"),
+    }
+}
+
+#[test]
+fn a_block_without_codes_leaves_no_plan(rt: HostRuntime) {
+    let parts = [TEN_DAYS, PLATE_1X3, A, SQUARE_2, TWO_DAYS_DUE_1];
+    let Some(codes) = codes_of(rt.alloc(), &parts) else {
+        assert!(rt; false, "the yard has codes");
+        return;
+    };
+    assert!(rt; leaves(&codes, 0, None));
+}
