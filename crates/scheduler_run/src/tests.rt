@@ -2,13 +2,16 @@
 ghost use Rattle.std.specs.Prelude.{◌≡◌};
 
 mod regions;
+mod twelve_blocks;
 mod unread;
 mod yards;
 
 use crate::{Status, run, run_quietly};
+use code_table::placement_count;
 use std::test::Fail;
 use std::thread::Threads;
 use unread::UnreadDesk;
+use yard_file::read_yard;
 use yard_io::{OpenGate, QuietDesk, RealDesk};
 use yards::*;
 
@@ -266,4 +269,18 @@ fn missing_file_is_a_read_fault(rt: HostRuntime) -> Result<(), Fail> {
     );
     assert_eq!(rt; ended, Status(4));
     Ok(())
+}
+
+#[test]
+fn twelve_blocks_on_three_plates(rt: HostRuntime) {
+    let said = says(&rt, &[twelve_blocks::YARD], twelve_blocks::PLAN);
+    assert_eq!(rt; said, Some((0, true)));
+    match read_yard(rt.alloc(), twelve_blocks::YARD.as_bytes()) {
+        Ok(yard) => {
+            for block in 0..yard.blocks().len() {
+                assert!(rt; placement_count(&yard, block as u8) <= 14_256, "at {block}");
+            }
+        }
+        Err(_) => assert!(rt; false, "the yard is read"),
+    }
 }
