@@ -8,7 +8,8 @@ use plan_rule::block_count;
 use shape_exact::NoMemory;
 use std::alloc::Global;
 
-/// At k, the sum of the least own costs of the last k blocks; None where some block has no code.
+/// At k, a number that the last k blocks cost at least; None where some block has no code. It is the sum of their least
+/// own costs, and the contract says no more than that it is a bound.
 pub fn tails(alloc: Global, codes: &Codes) -> Result<Option<Vec<u32>>, NoMemory>
     ensures { IfOk result
         (λ found. MatchOption found (IsBare (choices codes.now)) (λ list. AreTails (choices codes.now) list.items)) }

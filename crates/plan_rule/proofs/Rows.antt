@@ -10,7 +10,8 @@ use Rattle.plan_rule.specs.Plans.{total}
 use Rattle.plan_rule.specs.Paths.{path, key}
 use Rattle.plan_rule.specs.Jobs.{word, lower, upper}
 use Rattle.plan_rule.specs.Boxes.{exact, fixed_code}
-use Rattle.plan_rule.specs.Yards.{choices}
+use Rattle.plan_rule.specs.Bounds.{demand, used}
+use Rattle.plan_rule.specs.Yards.{choices, capacity, taken}
 
 abbrev at : ℕ → ℕ → Point
 at x y = record { x = pos x; y = pos y }
@@ -34,6 +35,70 @@ squares = record {
   plates = record { name = 80 ∷ []; width = 4; height = 3; pitch = 1; closed = [] } ∷ [];
   blocks = block (65 ∷ []) ∷ block (66 ∷ []) ∷ [];
 }
+
+-- a block on a plate of 3 by 2, due on day 1, one turn
+abbrev small : List Point → ℕ → ℕ → Block
+small shape duration weight = record {
+  name = 65 ∷ [];
+  shape = shape;
+  turns = true ∷ false ∷ false ∷ false ∷ [];
+  duration = duration;
+  release = 0;
+  due = 1;
+  weight = weight;
+}
+
+-- three blocks whose work does not fit two days
+abbrev three : PlainYard
+three = record {
+  days = 10;
+  plates = record { name = 80 ∷ []; width = 3; height = 2; pitch = 1; closed = [] } ∷ [];
+  blocks =
+      small (at 0 0 ∷ at 2 0 ∷ at 2 2 ∷ at 0 2 ∷ []) 2 2
+      ∷ small (at 0 0 ∷ at 1 0 ∷ at 1 2 ∷ at 0 2 ∷ []) 2 3
+      ∷ small (at 0 0 ∷ at 1 0 ∷ at 1 1 ∷ at 0 1 ∷ []) 1 4
+      ∷ [];
+}
+
+demand_of_three : demand (choices three) [] 0 1 ≡ 13
+unfolding choices
+demand_of_three = refl
+
+supply_of_three : (choices three).capacity 0 1 ≡ 12
+unfolding choices capacity
+supply_of_three = refl
+
+-- the smallest block on day 0 takes its one cell once, and works no more
+one_cell_taken : used (choices three) (exact 2 0 ∷ []) 0 1 ≡ 1
+unfolding choices taken
+one_cell_taken = refl
+
+demand_without_the_smallest : demand (choices three) (exact 2 0 ∷ []) 0 1 ≡ 12
+unfolding choices
+demand_without_the_smallest = refl
+
+-- two right triangles on one plate and one day, as drawn or turned by half: two codes each
+abbrev triangle : Block
+triangle = record {
+  name = 65 ∷ [];
+  shape = at 0 0 ∷ at 4 0 ∷ at 0 4 ∷ [];
+  turns = true ∷ false ∷ true ∷ false ∷ [];
+  duration = 1;
+  release = 0;
+  due = 0;
+  weight = 1;
+}
+
+abbrev triangles : PlainYard
+triangles = record {
+  days = 1;
+  plates = record { name = 80 ∷ []; width = 4; height = 4; pitch = 1; closed = [] } ∷ [];
+  blocks = triangle ∷ triangle ∷ [];
+}
+
+path_of_triangles : path (choices triangles) (0 ∷ 1 ∷ []) ≡ 1073741824
+unfolding choices path
+path_of_triangles = refl
 
 eighteen_codes_each : (choices squares).counts ≡ 18 ∷ 18 ∷ []
 unfolding choices

@@ -33,9 +33,11 @@ MayFit c box b code =
     MayTake c box b code
     × (fixed_code box b ≡ None → (a d : ℕ) → Fixes box a d → c.Clash a d b code → ⊥)
 
+-- the number, or Never, that is the base of the box
 abbrev pub IsBase : Choices → List Literal → Option ℕ → Type 0
 IsBase c box r = IsBound (MayTake c box) c.cost (blocks c) r
 
+-- the number, or Never, that is the fit of the box
 abbrev pub IsFit : Choices → List Literal → Option ℕ → Type 0
 IsFit c box r = IsBound (MayFit c box) c.cost (blocks c) r
 
@@ -81,12 +83,14 @@ IsEnergy c first last box (Some r) =
     × ((IsCalm c box first last × (r ≡ k))
     ⊎ (IsTight c box first last × (last + 1 < c.days) × ((v : ℕ) × IsLeastRaise c box first last v × (r ≡ k + v))))
 
--- among n blocks, every plan in the box is the plan p, or lexicographically after it
+-- among n blocks, the box fixes the first ones to the codes of the plan p, up to one whose codes in the box are above
+-- p's, or it fixes every block so; then every plan in it is p, or lexicographically after it
 abbrev pub IsBehindOn : ℕ → List Literal → List ℕ → Type 0
 IsBehindOn n box p =
     ((j : ℕ) × (j < n) × ((b : ℕ) → b < j → Fixes box b (code_of p b)) × Any (λ l. (l.block ≡ j) × (code_of p j < l.lo)) box)
     ⊎ ((b : ℕ) → b < n → Fixes box b (code_of p b))
 
+-- the same among all blocks
 abbrev pub IsBehind : Choices → List Literal → List ℕ → Type 0
 IsBehind c box p = IsBehindOn (blocks c) box p
 

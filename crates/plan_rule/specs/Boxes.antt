@@ -47,6 +47,7 @@ abbrev pub fixed_code : List Literal → ℕ → Option ℕ
 fixed_code [] b = None
 fixed_code (l ∷ box) b = if l.block == b then (if l.hi == l.lo + 1 then Some l.lo else None) else fixed_code box b
 
+-- the box fixes the block to this code
 abbrev pub Fixes : List Literal → ℕ → ℕ → Type 0
 Fixes box b code = fixed_code box b ≡ Some code
 

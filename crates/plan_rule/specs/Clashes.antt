@@ -7,6 +7,7 @@ use Rattle.shape_exact.specs.Shapes.{AreApart, turned}
 use Rattle.code_table.specs.declared.placement.Placement.{Placement}
 use Rattle.code_table.specs.Placements.{placements}
 
+-- where a placement puts the shape's lower left corner
 abbrev pub place_of : Placement → Point
 place_of p = record { x = pos p.x; y = pos p.y }
 

@@ -22,6 +22,7 @@ IsJobOf n (Some job) = IsJob job × (word job ≡ n)
 abbrev pub lower : Job → Job
 lower job = record { front = job.front; length = job.length + 1 }
 
+-- the upper half of a job
 abbrev pub upper : Job → Job
 upper job = record { front = job.front + 2 ^ (31 - job.length); length = job.length + 1 }
 

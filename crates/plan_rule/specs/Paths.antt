@@ -25,9 +25,11 @@ number_of zero bits = 0
 number_of (suc w) [] = 0
 number_of (suc w) (bit ∷ bits) = (if bit then 2 ^ w else 0) + number_of w bits
 
+-- the path number of a plan: the first 32 bits of its halvings
 unfoldable pub path : Choices → List ℕ → ℕ
 path c plan = number_of 32 (all_halvings 32 c.counts plan)
 
+-- the key of a plan: its total, and below that its path number
 abbrev pub key : Choices → List ℕ → ℕ
 key c plan = total c plan * 2 ^ 32 + path c plan
 

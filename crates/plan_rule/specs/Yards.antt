@@ -27,6 +27,7 @@ capacity yard first last =
     sum_below (length yard.plates)
     (λ p. option_map_or (λ plate. plate_days yard first last plate * (plate.height * plate.width)) (slice_get yard.plates p) 0)
 
+-- what a placement of a block takes: its cells, once for each open day of its plate in its span and in a window
 abbrev pub taken_by : PlainYard → ℕ → ℕ → Option Block → Option Placement → ℕ
 taken_by yard first last None p = 0
 taken_by yard first last (Some block) None = 0

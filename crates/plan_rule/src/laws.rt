@@ -26,19 +26,19 @@ pub fn keys_are_small(codes: &Codes)
     let _yard = codes.yard();
 }
 
-/// The base of a box is at most the total of a plan in it.
+/// The base of a box is at most the total of a feasible plan in it; where it is Never there is no such plan.
 pub fn base_is_sound(codes: &Codes, side: &PlanBox)
     ensures { IsSound (choices codes.now) side.now (IsBase (choices codes.now) side.now) }
 {}
 
-/// The fit of a box is at most the total of a feasible plan in it.
+/// The fit of a box is at most the total of a feasible plan in it; where it is Never there is no such plan.
 pub fn fit_is_sound(codes: &Codes, side: &PlanBox)
     requires { IsBox (choices codes.now) side.now }
     ensures { IsSound (choices codes.now) side.now (IsFit (choices codes.now) side.now) }
 {}
 
-/// The energy of a box in a window of days, both included, is at most the total of a feasible plan in it: on each cell
-/// of a plate stands at most one block on each open day.
+/// The energy of a box in a window of days, both included, is at most the total of a feasible plan in it; where it is
+/// Never there is no such plan. For on each cell of a plate stands at most one block on each open day.
 pub fn energy_is_sound(codes: &Codes, side: &PlanBox, first: u16, last: u16)
     ensures { IsSound (choices codes.now) side.now (IsEnergy (choices codes.now) first last side.now) }
 {

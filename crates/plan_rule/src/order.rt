@@ -6,7 +6,7 @@ ghost use Rattle.plan_rule.specs.Yards.{choices};
 use crate::{Plan, block_count};
 use code_table::Codes;
 
-/// The total of a plan: the own costs of its codes, added up; below 2^31.
+/// The total of a plan: the own costs of its codes, added up. That it is below 2^31 is a law, `keys_are_small`.
 pub fn total(codes: &Codes, plan: &Plan) -> u32
     requires { IsPlan (choices codes.now) plan.now }
     ensures { result ≡ total (choices codes.now) plan.now }

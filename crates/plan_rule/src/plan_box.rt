@@ -86,7 +86,9 @@ impl PlanBox {
         true
     }
 
-    /// Whether every plan in the box is this plan or, as a list of codes, after it.
+    /// Whether the literals fix the first blocks to the plan's codes, up to one whose codes in the box are all above the
+    /// plan's, or fix every block to the plan's code. Then every plan in the box is this plan or, as a list of codes,
+    /// after it.
     pub fn behind(&self, plan: &Plan) -> bool
         requires { AreAmong (length plan.now) self.now }
         ensures { IsTrue result ↔ IsBehindOn (length plan.now) self.now plan.now }

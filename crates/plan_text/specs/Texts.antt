@@ -26,6 +26,7 @@ block_line name due plate p = line (
     ∷ codes "x" ∷ decimal p.x ∷ codes "y" ∷ decimal p.y ∷ codes "start" ∷ decimal p.start
     ∷ codes "end" ∷ decimal p.end ∷ codes "tardiness" ∷ decimal (p.end - due) ∷ [])
 
+-- the line of a block at a placement, where there are both
 abbrev pub row_at : PlainYard → Option Block → Option Placement → List ℕ
 row_at yard None p = []
 row_at yard (Some block) None = []

@@ -20,12 +20,15 @@ span_at block text (Some (lo, c ∷ hi)) =
     then (number_of 1048576 lo >>= λ l. number_of 1048576 hi >>= λ h. if nat_le (l + 2) h then Some (record { block = block; lo = l; hi = h }) else None)
     else None
 
+-- the literal of a block whose codes are spelled so
 unfoldable pub span_of : ℕ → List ℕ → Option Literal
 span_of block text = span_at block text (cut 46 text)
 
+-- the literal that is spelled so: a block, a colon and its codes
 unfoldable pub literal_of : List ℕ → Option Literal
 literal_of text = field (number_of 31) 58 text >>= λ b. span_of b.0 b.1
 
+-- the citation that is spelled so: a number below 10^18
 unfoldable pub cite_of : List ℕ → Option ℕ
 cite_of text = number_of 999999999999999999 text
 
@@ -43,12 +46,15 @@ abbrev pub list_of : {X : Type 0} → (X → ℕ) → (List ℕ → Option X) �
 list_of key read text =
     if bytes_eq text (45 ∷ []) then Some [] else ascending key read 0 (slice_split (λ b. b == 44) text)
 
+-- the side that is spelled so: literals that ascend by block
 unfoldable pub side_of : List ℕ → Option (List Literal)
 side_of text = list_of (λ (l : Literal). l.block) literal_of text
 
+-- the citations that are spelled so: ascending numbers
 unfoldable pub cites_of : List ℕ → Option (List ℕ)
 cites_of text = list_of (λ k. k) cite_of text
 
+-- the branch whose fields after the first word are spelled so
 unfoldable pub branch_of : List ℕ → Option Record
 branch_of text = do
   block ← field (number_of 31) 32 text
@@ -58,6 +64,7 @@ branch_of text = do
   cites ← cites_of side.1
   if nat_le lo.0 hi.0 then Some (Branch block.0 lo.0 hi.0 side.0 cites) else None
 
+-- the energy record whose fields after the first word are spelled so
 unfoldable pub energy_of : List ℕ → Option Record
 energy_of text = do
   from ← field (number_of 399) 32 text
@@ -65,9 +72,11 @@ energy_of text = do
   side ← side_of to.1
   if nat_le from.0 to.0 then Some (Energy from.0 to.0 side) else None
 
+-- the fit record whose field after the first word is spelled so
 unfoldable pub fit_of : List ℕ → Option Record
 fit_of text = side_of text >>= λ side. Some (Fit side)
 
+-- the record with this first word and these fields
 abbrev pub record_after : List ℕ → List ℕ → Option Record
 record_after word rest =
     if bytes_eq word (codes "branch") then branch_of rest
@@ -84,10 +93,12 @@ abbrev pub closed : List (List ℕ) → Result (List Record) LogFault
 closed ([] ∷ []) = Ok []
 closed _ = Err Rest
 
+-- a record before those of the later lines
 abbrev pub before : Record → Result (List Record) LogFault → Result (List Record) LogFault
 before r (Ok rs) = Ok (r ∷ rs)
 before r (Err e) = Err e
 
+-- the record of line n before those of the later lines, or that this line is none
 abbrev pub line_then : Option Record → ℕ → Result (List Record) LogFault → Result (List Record) LogFault
 line_then None n rest = Err (Line n)
 line_then (Some r) n rest = before r rest
@@ -99,13 +110,16 @@ records_from n (piece ∷ []) = Err NoEnd
 records_from n (line ∷ next ∷ more) =
     if bytes_eq line (codes "end") then closed (next ∷ more) else line_then (record_of line) n (records_from (n + 1) (next ∷ more))
 
+-- the records of a text whose first line is the head
 abbrev pub headed : List (List ℕ) → Result (List Record) LogFault
 headed (first ∷ next ∷ more) = if bytes_eq first (codes "log 1") then records_from 2 (next ∷ more) else Err Head
 headed _ = Err Head
 
+-- the pieces between the line feeds
 abbrev pub lines : List ℕ → List (List ℕ)
 lines bytes = slice_split (λ b. b == 10) bytes
 
+-- the log that the bytes are read as, or their first fault
 unfoldable pub log_of : List ℕ → Result (List Record) LogFault
 log_of bytes = headed (lines bytes)
 
@@ -114,6 +128,7 @@ abbrev pub IsUnread : {Y : Type 0} → Unread → Option Y → Type 0
 IsUnread unread.Form read = read ≡ None
 IsUnread unread.Memory read = Unit {0}
 
+-- the same for a reader's whole answer
 abbrev pub Reads : {X Y : Type 0} → (X → Y) → Result X Unread → Option Y → Type 0
 Reads view (Ok x) read = read ≡ Some (view x)
 Reads view (Err e) read = IsUnread e read
@@ -123,6 +138,7 @@ abbrev pub Fails : {Y : Type 0} → LogFault → Result Y LogFault → Type 0
 Fails Memory read = Unit {0}
 Fails e read = read ≡ Err e
 
+-- the same for the whole answer of a call
 abbrev pub Gives : {X Y : Type 0} → (X → Y) → Result X LogFault → Result Y LogFault → Type 0
 Gives view (Ok x) read = read ≡ Ok (view x)
 Gives view (Err e) read = Fails e read

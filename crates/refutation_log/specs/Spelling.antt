@@ -11,6 +11,7 @@ use Rattle.refutation_log.specs.declared.record.Record.TheVariants.{Branch, Fit,
 abbrev pub span_text : ℕ → ℕ → List ℕ
 span_text lo hi = if hi == lo + 1 then decimal lo else decimal lo ++ 46 ∷ 46 ∷ decimal hi
 
+-- a block, a colon and its codes
 unfoldable pub literal_text : Literal → List ℕ
 literal_text l = decimal l.block ++ 58 ∷ span_text l.lo l.hi
 
@@ -19,9 +20,11 @@ abbrev pub list_text : {X : Type 0} → (X → List ℕ) → List X → List ℕ
 list_text text [] = 45 ∷ []
 list_text text (x ∷ xs) = join_with_byte 44 (map text (x ∷ xs))
 
+-- the literals of a side
 unfoldable pub side_text : List Literal → List ℕ
 side_text side = list_text literal_text side
 
+-- the citations of a record
 unfoldable pub cites_text : List ℕ → List ℕ
 cites_text cites = list_text decimal cites
 
@@ -32,12 +35,15 @@ fields (Branch block lo hi side cites) =
 fields (Fit side) = codes "fit" ∷ side_text side ∷ []
 fields (Energy from to side) = codes "energy" ∷ decimal from ∷ decimal to ∷ side_text side ∷ []
 
+-- the fields of a record with a space between them
 unfoldable pub record_text : Record → List ℕ
 record_text r = join_with_byte 32 (fields r)
 
+-- a record's line
 abbrev pub line_text : Record → List ℕ
 line_text r = record_text r ++ 10 ∷ []
 
+-- the head, a line for each record, and the line that ends the log
 unfoldable pub log_text : List Record → List ℕ
 log_text records = codes "log 1\n" ++ (flat_map line_text records ++ codes "end\n")
 

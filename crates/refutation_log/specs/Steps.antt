@@ -31,6 +31,7 @@ IsCovered c t earlier side cites b code =
 abbrev pub IsRange : Choices → ℕ → ℕ → ℕ → Type 0
 IsRange c b lo hi = ((lo < hi) × (hi ≤ count c b)) ⊎ ((lo ≡ 0) × (hi ≡ 0) × (count c b ≡ 0))
 
+-- a branch over a range of a block's codes, each of which is covered, beside a side that leaves the block free
 pub record IsBranch (c : Choices) (t : Option (List ℕ)) (earlier : List Record) (b lo hi : ℕ) (side : List Literal) (cites : List ℕ) : Type 0 where
   pub side_is : IsBox c side
   pub block : b < blocks c

@@ -93,7 +93,7 @@ impl Log {
         }
     }
 
-    /// The log of these records, without a copy; handed back where there are 10^18 or more.
+    /// The log of these records, without a copy; want of memory where there are 10^18 or more.
     pub(crate) fn from_list(list: Vec<Record>) -> Result<Log, NoMemory>
         ensures { IfOk result (λ log. log ≡ list.items) }
     {

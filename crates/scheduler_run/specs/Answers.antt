@@ -35,7 +35,7 @@ abbrev pub AnswersYard : Result PlainYard YardFault → ℕ → List ℕ → Typ
 AnswersYard (Err fault) status text = IsRefusal fault status text
 AnswersYard (Ok yard) status text = PlansYard yard status text
 
--- the answer to the bytes of a file: those that it has, where the desk tells them, and else those that it gave
+-- the answer to the bytes of a file: those that it has, where the desk tells them, and else some bytes, of which nothing is said
 pub record AnswersFile (file : Option (List ℕ)) (status : ℕ) (text : List ℕ) : Type 0 where
   pub bytes : List ℕ
   pub told : IfSome file (λ its. bytes ≡ its)

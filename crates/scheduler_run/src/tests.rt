@@ -71,7 +71,15 @@ total 0
 
 #[test]
 fn one_block(rt: HostRuntime) -> Result<(), Fail> {
-    let cases: [(&[&str], u8, &str); 7] = [
+    let cases: [(&[&str], u8, &str); 8] = [
+        (
+            &[LONG, PLATE_64X64, A, CELL, ONE_DAY_DUE_1],
+            0,
+            "plan 1
+block A plate P turn 0 x 0 y 0 start 0 end 0 tardiness 0
+total 0
+",
+        ),
         (
             &[LONG, PLATE_64X65, A, CELL, ONE_DAY_DUE_1],
             1,
@@ -255,6 +263,14 @@ fn long_file_is_not_read(rt: HostRuntime) -> Result<(), Fail> {
     assert_eq!(rt; ended, Status(1));
     assert_eq!(rt; desk.said(), b"refused yard 1 TooLong\n".as_slice());
     Ok(())
+}
+
+#[test]
+fn a_read_fault_says_nothing(rt: HostRuntime) {
+    let mut desk = UnreadDesk::new(rt.alloc(), 10);
+    let ended = run(&rt, rt.alloc(), &["plan", "y"], &mut desk, &OpenGate);
+    assert_eq!(rt; ended, Status(4));
+    assert_eq!(rt; desk.said().len(), 0);
 }
 
 #[test]

@@ -95,6 +95,8 @@ pub fn run_quietly<R: Threads + Sync>(
         (file_of desk.old) result.0 (Some (said_of desk.old)) (Some (said_of desk.new)) }
     ensures read_fault { result.0 ≢ 4 }
     ensures write_fault { result.0 ≢ 5 }
+    ensures front { result.0 ≡ 6 → SaysFront (map (λ w. w.now) words.now)
+        (file_of desk.old) (Some (said_of desk.old)) (Some (said_of desk.new)) }
     ensures files { SameFiles (file_of desk.old) (file_of desk.new) }
 {
     run(rt, alloc, words, desk, &OpenGate)

@@ -1,5 +1,6 @@
 -- A number that is read is spelled so, and what is spelled so is read.
 use Rattle.std.proofs.Common.{◌≡◌, ℕ, suc, ◌+◌, ◌-◌, ◌*◌, ◌^◌, ◌<◌, ◌≤◌, Bool, true, false, cond, eqb, leb, ◌&&◌, List, [], ◌∷◌, length, get_or, Option, Some, None, refl, sym, ap, ◌∙◌, inl, inr, arith, rules}
+use Rattle.std.specs.Prelude.{IfSome}
 use Rattle.std.specs.Fmt.{decimal}
 use Rattle.std.specs.Str.{all_ascii_digits}
 use Rattle.std.specs.Char.{is_ascii_digit}
@@ -79,3 +80,8 @@ number-again limit n wide within =
     let plain = plain-from (decimal n) (decimal_nonempty n small) (decimal_alone n small) in
     let value = digits_value-decimal own n small in
     rw plain (read-again limit 0 (decimal n) (digits_decimal own n small) (omega (arith, value)) ∙ ap (λ (k : ℕ). Some k) value)
+
+-- a text that is read as a number is its spelling
+pub spelled : (limit : ℕ) (text : List ℕ) (o : Option ℕ) → limit < 2 ^ 64 → o ≡ number_of limit text → IfSome o (λ n. text ≡ decimal n)
+spelled limit text None wide is = tt
+spelled limit text (Some n) wide is = (number-takes limit n text wide (sym is)).0

@@ -9,8 +9,8 @@ use shape_exact::NoMemory;
 use std::alloc::Global;
 use std::collections::BTreeMap;
 
-/// Files and said bytes in memory, all told. Each piece has at most `bite` bytes. A missing file is not told; its
-/// length is 0. Its counts of faults are the constant 0, so no call answers `Failed`.
+/// Files and said bytes in memory, all told. Each piece has at most `bite` bytes, but that a read of a missing file, or
+/// at or past the end, fills the whole buffer with 0. A missing file is not told; its length is 0. Its counts of faults are the constant 0, so no call answers `Failed`.
 #[derive(Drop)]
 pub struct QuietDesk {
     alloc: Global,

@@ -15,8 +15,8 @@ fn zeros(alloc: Global, size: usize) -> Result<Vec<u8>, Trouble>
     Ok(vec![in alloc; 0u8; size]?)
 }
 
-/// The first `total` bytes of a file: all of them, where it has so many. A shorter file is filled up with bytes of
-/// which nothing is said.
+/// The bytes of a file that has exactly `total` bytes. Of a file of another length so many bytes come, and nothing is
+/// said of them.
 #[tactic(auto, using(crate::proofs::Pieces::pieces))]
 pub fn read_bytes<D: Desk>(
     alloc: Global,

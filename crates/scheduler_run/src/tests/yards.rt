@@ -16,6 +16,8 @@ pub const PLATE_4X4: &str = "[[plate]]\nname = \"P\"\nwidth = 4\nheight = 4\n";
 
 pub const PLATE_3X2: &str = "[[plate]]\nname = \"P\"\nwidth = 3\nheight = 2\n";
 
+pub const PLATE_64X64: &str = "[[plate]]\nname = \"P\"\nwidth = 64\nheight = 64\n";
+
 pub const PLATE_64X65: &str = "[[plate]]\nname = \"P\"\nwidth = 64\nheight = 65\n";
 
 pub const PLATE_CLOSED: &str = "[[plate]]\nname = \"P\"\nwidth = 2\nheight = 2\nclosed = [5]\n";

@@ -1,6 +1,6 @@
 use Rattle.std.proofs.Common.{◌≡◌, ◌≤◌, drop}
 use Rattle.text_parts.specs.Parts.{read_on}
-use Rattle.text_parts.proofs.numbers.number_of.Given as goal
+use Rattle.text_parts.proofs.numbers.plain_number.Given as goal
 
 abbrev pub invariant-loop-digit : goal.invariant-loop-digit
 invariant-loop-digit l =
