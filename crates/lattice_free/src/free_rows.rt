@@ -97,7 +97,7 @@ fn runs_of(
 impl FreeRows {
     /// The free positions of the plate for the shape among the fixed ones: each obstacle is one of a fixed footprint
     /// against `shape`, with the fixed footprint's position. Takes memory for at most one run more than there are
-    /// obstacles in each row of the pitch.
+    /// obstacles in each row of the pitch. Costs a row's stretches, sorted, for each row of the pitch.
     pub fn new(
         alloc: Global,
         plate: &Plate,
@@ -119,14 +119,15 @@ impl FreeRows {
         })
     }
 
-    /// The first free position at or after the one of `y` and `x`, in the order of y and then of x.
+    /// The first free position at or after the one of `y` and `x`, in the order of y and then of x. One pass over the
+    /// runs at most.
     pub fn first_from(&self, y: u16, x: u16) -> Option<Point>
         ensures { result ≡ find (is_from y x) self.now }
     {
         first_of(&self.runs, self.pitch, y, x)
     }
 
-    /// How many free positions there are.
+    /// How many free positions there are. One pass over the runs.
     pub fn count(&self) -> u32
         ensures { result ≡ length self.now }
     {

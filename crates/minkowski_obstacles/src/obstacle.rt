@@ -82,7 +82,8 @@ fn row_within(sides: &[Side], y: i32) -> Stretch
 }
 
 impl Obstacle {
-    /// The obstacle of a fixed footprint for a moving one. Costs at most the product of the numbers of vertices.
+    /// The obstacle of a fixed footprint for a moving one. Costs in the order of the product of the numbers of vertices:
+    /// three passes of that size, and a sort of at most 32 sides.
     pub fn of(fixed: &Shape, moving: &Shape) -> Obstacle
         ensures { result ≡ record { fixed = fixed.now; moving = moving.now } }
     {
