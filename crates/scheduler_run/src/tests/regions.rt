@@ -81,3 +81,42 @@ fn a_block_without_codes_leaves_no_plan(rt: HostRuntime) {
     };
     assert!(rt; leaves(&codes, 0, None));
 }
+
+#[test]
+fn a_block_of_one_code_has_no_bit(rt: HostRuntime) {
+    let parts = [
+        TEN_DAYS,
+        PLATE_4X3,
+        A,
+        "shape = [[0,0],[4,0],[4,3],[0,3]]\nrelease = 8\n",
+        TWO_DAYS_DUE_1,
+        B,
+        SQUARE_3,
+        TWO_DAYS_DUE_1,
+    ];
+    let Some(codes) = codes_of(rt.alloc(), &parts) else {
+        assert!(rt; false, "the yard has codes");
+        return;
+    };
+    assert!(rt; leaves(&codes, 0, Some((&[0], 0, 18))));
+}
+
+/// Seven blocks of 32 codes want 35 bits: with all 32 bits told, eight plans are left, which share one path number.
+#[test]
+fn bits_run_out_before_the_last_block(rt: HostRuntime) {
+    let parts = [
+        "version = 1\ndays = 1\n[[plate]]\nname = \"P\"\nwidth = 8\nheight = 4\n",
+        "[[block]]\nname = \"A\"\nshape = [[0,0],[1,0],[1,1],[0,1]]\nduration = 1\ndue = 0\n",
+        "[[block]]\nname = \"B\"\nshape = [[0,0],[1,0],[1,1],[0,1]]\nduration = 1\ndue = 0\n",
+        "[[block]]\nname = \"C\"\nshape = [[0,0],[1,0],[1,1],[0,1]]\nduration = 1\ndue = 0\n",
+        "[[block]]\nname = \"D\"\nshape = [[0,0],[1,0],[1,1],[0,1]]\nduration = 1\ndue = 0\n",
+        "[[block]]\nname = \"E\"\nshape = [[0,0],[1,0],[1,1],[0,1]]\nduration = 1\ndue = 0\n",
+        "[[block]]\nname = \"F\"\nshape = [[0,0],[1,0],[1,1],[0,1]]\nduration = 1\ndue = 0\n",
+        "[[block]]\nname = \"G\"\nshape = [[0,0],[1,0],[1,1],[0,1]]\nduration = 1\ndue = 0\n",
+    ];
+    let Some(codes) = codes_of(rt.alloc(), &parts) else {
+        assert!(rt; false, "the yard has codes");
+        return;
+    };
+    assert!(rt; leaves(&codes, 32, Some((&[0, 0, 0, 0, 0, 0], 0, 8))));
+}
