@@ -1,2 +1,4 @@
+pub mod DirectionLaws
 pub mod SideLaws
+pub mod JoinLaws
 pub mod ObstacleLaws

@@ -20,6 +20,7 @@ use Rattle.shape_exact.proofs.ApartLaws.{mark, inside_from, inside_to}
 use Rattle.minkowski_obstacles.specs.declared.side.Side.{Side}
 use Rattle.minkowski_obstacles.specs.Sums.{wall, value, IsSum}
 use Rattle.minkowski_obstacles.specs.Pairs.{AreApartAt, Overlap, IsEmptyRow, IsRow, offset}
+use Rattle.minkowski_obstacles.proofs.JoinLaws.{all_hold, any_of_all}
 use Rattle.minkowski_obstacles.specs.declared.stretch.Stretch.{Stretch}
 use Rattle.minkowski_obstacles.specs.Stretches.{Holds}
 use lib.IntN.{ℤ, pos, negsuc, ◌+ℤ◌, ◌-ℤ◌, ◌*ℤ◌, neg_ℤ}
@@ -52,7 +53,8 @@ inside_sum (p ∷ ps) [] ss w f m u h = absurd (let n = m.some in omega arith)
 inside_sum (p ∷ ps) (q ∷ qs) ss w f m u h =
     let fs = p ∷ ps in
     let ms = q ∷ qs in
-    let s = sum_sees fs ms (map wall ss) w u (convex_from ms m) (every_map wall (λ t. pos 0 <ℤ height t w) ss (every_from_All (λ t. pos 0 <ℤ value t w) ss h)) in
+    let k = all_hold fs ms u.all ss w (convex_from fs f) (convex_from ms m) u.sum u.joined h in
+    let s = sum_sees fs ms (map wall u.all) w u.sum (convex_from ms m) (every_map wall (λ t. pos 0 <ℤ height t w) u.all (every_from_All (λ t. pos 0 <ℤ value t w) u.all k)) in
     let z = meet p ps (shift w q) (map (shift w) qs) (convex_from fs f) (convex_shifted w ms (convex_from ms m)) (thick_from fs f) (seen_shifted w ms ms (thick_from ms m)) s.0 s.1 in
     spot_from fs ms w z.0.x z.0.y z.0.n z.1 z.2
 
@@ -61,7 +63,7 @@ pub outside_sum : (fs ms : List Point) (ss : List Side) (w : Point) → IsShape 
 outside_sum [] ms ss w f m u h = absurd (let n = f.some in omega arith)
 outside_sum (p ∷ ps) [] ss w f m u h = absurd (let n = m.some in omega arith)
 outside_sum (p ∷ ps) (q ∷ qs) ss w f m u h = λ s n i j.
-    sum_apart p ps q qs (map wall ss) w u (some_map wall (λ t. height t w ≤ℤ pos 0) ss (some_from_Any (λ t. value t w ≤ℤ pos 0) ss h)) (mark s)
+    sum_apart p ps q qs (map wall u.all) w u.sum (some_map wall (λ t. height t w ≤ℤ pos 0) u.all (some_from_Any (λ t. value t w ≤ℤ pos 0) u.all (any_of_all u.all ss w u.joined h))) (mark s)
     (subst (λ (vs : List Point). Inside (mark s) vs) (shift_none (p ∷ ps)) (inside_from (p ∷ ps) origin s n i))
     (inside_from (q ∷ qs) w s n j)
 

@@ -1,25 +1,27 @@
 -- The sides that are made from the edges are those of the sum.
-use Rattle.std.proofs.Common.{◌≡◌, refl, sym, ap, subst, arith, ℕ, zero, suc, ◌+◌, ◌<◌, ◌≤◌, List, [], ◌∷◌, ◌++◌, length, take, get_or, map, ◌⊎◌, inl, inr}
-use Rattle.std.specs.List.{All, Any, Contains, AllZip}
+use Rattle.std.proofs.Common.{◌≡◌, refl, sym, ap, subst, arith, ℕ, zero, suc, ◌<◌, List, [], ◌∷◌, ◌++◌, map, ◌⊎◌, inl, inr}
+use Rattle.std.specs.List.{All, Contains, AllZip}
 use Rattle.std.specs.List.Sorted.{IsPermutation}
 use Rattle.std.proofs.lemmas.List.Sorted.{All-permutation, Contains-permutation, IsPermutation-map}
-use Rattle.std.proofs.lemmas.List.Elements.{All-cons, All-push, All-more, All-weaker}
-use Rattle.std.proofs.lemmas.List.{length_push}
+use Rattle.std.proofs.lemmas.List.Elements.{All-cons}
 use Rattle.shape_exact.specs.declared.point.Point.{Point}
-use Rattle.shape_exact.specs.Shapes.{cross}
+use Rattle.shape_exact.specs.Shapes.{cross, IsShape}
+use Rattle.shape_exact.proofs.RingLaws.{linear, zero-mul}
 use Rattle.shape_exact.proofs.Plane.{Edge as Line, side, rim, Every, Some_of, mark_of}
 use Rattle.shape_exact.proofs.LineLaws.{every_then}
-use Rattle.shape_exact.proofs.SumLaws.{Side as Wall, Furthest, Of_fixed, Of_moving, Same_way, Is_sum, some_then, pick, every_map, fixed_side as fixed_wall}
+use Rattle.shape_exact.proofs.SumLaws.{Side as Wall, Furthest, Of_fixed, Of_moving, Same_way, Is_sum, pick, every_map}
 use Rattle.shape_exact.proofs.MoveLaws.{some_map}
 use Rattle.shape_exact.proofs.ZipLaws.{zip_some, zip_back}
-use Rattle.shape_exact.proofs.BridgeLaws.{every_from_All, some_from_Any, side-cross}
+use Rattle.shape_exact.proofs.BridgeLaws.{every_from_All, some_from_Any, side-cross, thick_from}
 use Rattle.minkowski_obstacles.specs.declared.edge.Edge.{Edge}
 use Rattle.minkowski_obstacles.specs.declared.side.Side.{Side}
-use Rattle.minkowski_obstacles.specs.Sums.{line, wall, fixed_side, moving_side, OneWay, IsSmall}
-use lib.IntN.{ℤ}
-use lib.Signed.{◌≤ℤ◌}
+use Rattle.minkowski_obstacles.specs.Sums.{line, wall, fixed_side, moving_side}
+use Rattle.minkowski_obstacles.specs.Merged.{half_turns, HasDirection}
+use Rattle.minkowski_obstacles.proofs.DirectionLaws.{Way, way, up, down, nowhere}
+use lib.IntN.{ℤ, pos, ◌-ℤ◌, ◌*ℤ◌}
+use lib.Signed.{◌<ℤ◌, ◌≤ℤ◌}
 
-some_from_contains : (vs : List Point) (m : Point) → Contains vs m → Some_of (λ v. v ≡ m) vs
+pub some_from_contains : (vs : List Point) (m : Point) → Contains vs m → Some_of (λ v. v ≡ m) vs
 some_from_contains vs m h = some_from_Any (λ v. v ≡ m) vs (h.0, m, h.1, h.2, refl)
 
 -- the vertex that is found furthest, in the words of the lemmas
@@ -37,27 +39,11 @@ of_fixed_is e vs m s h a f = (m, furthest_is (line e) vs m h a, ap (λ (t : Side
 pub of_moving_is : (f : Edge) (us : List Point) (u : Point) (s : Side) → Contains us u → All (λ v. cross f.from f.to v ≤ℤ cross f.from f.to u) us → s ≡ moving_side f u → Of_moving us (line f) (wall s)
 of_moving_is f us u s h a e = (u, furthest_is (line f) us u h a, ap (λ (t : Side). wall t) e)
 
--- a side with the direction of a fixed one comes from a fixed edge of that direction
-pub joined_is : (fs ms : List Point) (ts : List Side) (f : Edge) (u : Point) (s : Side) → AllZip (λ e t. Of_fixed ms e (wall t)) (rim fs) ts → Any (λ t. OneWay t s) ts → s ≡ moving_side f u → Some_of (λ e. Same_way e (line f)) (rim fs)
-joined_is fs ms ts f u s z a e =
-    let p = pick (λ t. OneWay t s) (λ t. Some_of (λ g. Of_fixed ms g (wall t)) (rim fs)) ts (some_from_Any (λ t. OneWay t s) ts a) (zip_back (λ g t. Of_fixed ms g (wall t)) (rim fs) ts z) in
-    some_then (λ g. Of_fixed ms g (wall p.0)) (λ g. Same_way g (line f)) (λ g o. way g o.0 p.0 o.2 (subst (λ (t : Side). OneWay p.0 t) e p.1)) (rim fs) p.2
-  where
-    of_wall : (g : Line) (m : Point) (w : Wall) → w ≡ fixed_wall g m → OneWay (record { at = w.at; along = w.along }) (moving_side f u) → Same_way g (line f)
-    of_wall g m w q o = let r = subst (λ (v : Wall). OneWay (record { at = v.at; along = v.along }) (moving_side f u)) q o in record { cross = r.0; dot = r.1 }
-
-    way : (g : Line) (m : Point) (t : Side) → wall t ≡ fixed_wall g m → OneWay t (moving_side f u) → Same_way g (line f)
-    way g m t q o = of_wall g m (wall t) q o
-
--- ---- one more side
+-- ---- parts of lists
 pub some_before : {A : Type 0} (P : A → Type 0) (xs : List A) (y : A) → Some_of P xs → Some_of P (xs ++ y ∷ [])
 some_before P [] y h = absurd h
 some_before P (x ∷ xs) y (inl h) = inl h
 some_before P (x ∷ xs) y (inr h) = inr (some_before P xs y h)
-
-pub some_last : {A : Type 0} (P : A → Type 0) (xs : List A) (y : A) → P y → Some_of P (xs ++ y ∷ [])
-some_last P [] y h = inl h
-some_last P (x ∷ xs) y h = inr (some_last P xs y h)
 
 pub some_left : {A : Type 0} (P : A → Type 0) (xs ys : List A) → Some_of P xs → Some_of P (xs ++ ys)
 some_left P [] ys h = absurd h
@@ -73,21 +59,17 @@ every_append P [] ys h k = k
 every_append P (x ∷ xs) ys h k = (h.0, every_append P xs ys h.1 k)
 
 -- the sides of both together are those of the sum
-pub sum_from : (fs ms : List Point) (ss ts : List Side) → AllZip (λ e s. Of_fixed ms e (wall s)) (rim fs) ss → All (λ s. Some_of (λ f. Of_moving fs f (wall s)) (rim ms)) ts → All (λ f. Some_of (λ s. Of_moving fs f (wall s)) ts ⊎ Some_of (λ e. Same_way e f) (rim fs)) (rim ms) → Is_sum fs ms (map wall (ss ++ ts))
-sum_from fs ms ss ts z s m = record {
+pub sum_from : (fs ms : List Point) (ss ts : List Side) → AllZip (λ e s. Of_fixed ms e (wall s)) (rim fs) ss → AllZip (λ f s. Of_moving fs f (wall s)) (rim ms) ts → Is_sum fs ms (map wall (ss ++ ts))
+sum_from fs ms ss ts z y = record {
   sound = every_map wall (λ w. Some_of (λ e. Of_fixed ms e w) (rim fs) ⊎ Some_of (λ f. Of_moving fs f w) (rim ms)) (ss ++ ts)
       (every_append (λ t. Some_of (λ e. Of_fixed ms e (wall t)) (rim fs) ⊎ Some_of (λ f. Of_moving fs f (wall t)) (rim ms)) ss ts
       (every_then (λ t. Some_of (λ e. Of_fixed ms e (wall t)) (rim fs)) (λ t. Some_of (λ e. Of_fixed ms e (wall t)) (rim fs) ⊎ Some_of (λ f. Of_moving fs f (wall t)) (rim ms)) (λ t h. inl h) ss (zip_back (λ e t. Of_fixed ms e (wall t)) (rim fs) ss z))
-      (every_then (λ t. Some_of (λ f. Of_moving fs f (wall t)) (rim ms)) (λ t. Some_of (λ e. Of_fixed ms e (wall t)) (rim fs) ⊎ Some_of (λ f. Of_moving fs f (wall t)) (rim ms)) (λ t h. inr h) ts (every_from_All (λ t. Some_of (λ f. Of_moving fs f (wall t)) (rim ms)) ts s)));
+      (every_then (λ t. Some_of (λ f. Of_moving fs f (wall t)) (rim ms)) (λ t. Some_of (λ e. Of_fixed ms e (wall t)) (rim fs) ⊎ Some_of (λ f. Of_moving fs f (wall t)) (rim ms)) (λ t h. inr h) ts (zip_back (λ f t. Of_moving fs f (wall t)) (rim ms) ts y)));
   fixed = every_then (λ e. Some_of (λ t. Of_fixed ms e (wall t)) ss) (λ e. Some_of (λ w. Of_fixed ms e w) (map wall (ss ++ ts)))
       (λ e h. some_map wall (λ w. Of_fixed ms e w) (ss ++ ts) (some_left (λ t. Of_fixed ms e (wall t)) ss ts h)) (rim fs) (zip_some (λ e t. Of_fixed ms e (wall t)) (rim fs) ss z);
-  moving = every_then (λ f. Some_of (λ t. Of_moving fs f (wall t)) ts ⊎ Some_of (λ e. Same_way e f) (rim fs)) (λ f. Some_of (λ w. Of_moving fs f w) (map wall (ss ++ ts)) ⊎ Some_of (λ e. Same_way e f) (rim fs))
-      (λ f h. case f h) (rim ms) (every_from_All (λ f. Some_of (λ t. Of_moving fs f (wall t)) ts ⊎ Some_of (λ e. Same_way e f) (rim fs)) (rim ms) m);
+  moving = every_then (λ f. Some_of (λ t. Of_moving fs f (wall t)) ts) (λ f. Some_of (λ w. Of_moving fs f w) (map wall (ss ++ ts)) ⊎ Some_of (λ e. Same_way e f) (rim fs))
+      (λ f h. inl (some_map wall (λ w. Of_moving fs f w) (ss ++ ts) (some_right (λ t. Of_moving fs f (wall t)) ss ts h))) (rim ms) (zip_some (λ f t. Of_moving fs f (wall t)) (rim ms) ts y);
 }
-  where
-    case : (f : Line) → Some_of (λ t. Of_moving fs f (wall t)) ts ⊎ Some_of (λ e. Same_way e f) (rim fs) → Some_of (λ w. Of_moving fs f w) (map wall (ss ++ ts)) ⊎ Some_of (λ e. Same_way e f) (rim fs)
-    case f (inl h) = inl (some_map wall (λ w. Of_moving fs f w) (ss ++ ts) (some_right (λ t. Of_moving fs f (wall t)) ss ts h))
-    case f (inr h) = inr h
 
 -- ---- another order of the sides
 pub contains_from : {A : Type 0} (P : A → Type 0) (xs : List A) → Some_of P xs → (x : A) × Contains xs x × P x
@@ -122,36 +104,52 @@ sum_permuted fs ms ss ts p u = record {
     case f (inl h) = inl (some_permuted (λ w. Of_moving fs f w) (map wall ss) (map wall ts) q h)
     case f (inr h) = inr h
 
--- ---- the moving edges, one after another
--- what the sides have when i edges are done
-pub record Done (fs ms : List Point) (ss : List Side) (i : ℕ) : Type 0 where
-  pub sound : All (λ s. Some_of (λ f. Of_moving fs f (wall s)) (rim ms)) ss
-  pub each : All (λ f. Some_of (λ s. Of_moving fs f (wall s)) ss ⊎ Some_of (λ e. Same_way e f) (rim fs)) (take i (rim ms))
-  pub count : length ss ≤ i
-  pub small : All IsSmall ss
+-- ---- each side has a direction
+no_side : (a b c d : ℤ) → a ≡ pos 0 → b ≡ pos 0 → pos 0 <ℤ (a *ℤ c -ℤ b *ℤ d) → ⊥
+no_side a b c d e f h =
+    let g : pos 0 <ℤ (pos 0 *ℤ c -ℤ pos 0 *ℤ d) = subst (λ (k : ℤ). pos 0 <ℤ (pos 0 *ℤ c -ℤ k *ℤ d)) f (subst (λ (k : ℤ). pos 0 <ℤ (k *ℤ c -ℤ b *ℤ d)) e h) in
+    let m = zero-mul c in
+    let n = zero-mul d in
+    omega (arith, linear)
 
-some_at : {A : Type 0} (P : A → Type 0) (xs : List A) (k : ℕ) (x : A) → k < length xs → get_or xs k x ≡ x → P x → Some_of P xs
-some_at P xs k x l e h = some_from_Any P xs (k, x, l, e, h)
-
-pub done_kept : (fs ms : List Point) (ss : List Side) (i : ℕ) (f : Line) (s : Side) → Done fs ms ss i → i < length (rim ms) → get_or (rim ms) i f ≡ f → Of_moving fs f (wall s) → IsSmall s → Done fs ms (ss ++ s ∷ []) (i + 1)
-done_kept fs ms ss i f s d l e o b = record {
-  sound = All-push (λ t. Some_of (λ g. Of_moving fs g (wall t)) (rim ms)) ss s d.sound (some_at (λ g. Of_moving fs g (wall s)) (rim ms) i f l e o);
-  each = All-more (λ g. Some_of (λ t. Of_moving fs g (wall t)) (ss ++ s ∷ []) ⊎ Some_of (λ h. Same_way h g) (rim fs)) (rim ms) i f l
-      (All-weaker (λ g. Some_of (λ t. Of_moving fs g (wall t)) ss ⊎ Some_of (λ h. Same_way h g) (rim fs)) (λ g. Some_of (λ t. Of_moving fs g (wall t)) (ss ++ s ∷ []) ⊎ Some_of (λ h. Same_way h g) (rim fs)) (λ g h. widen g h) (take i (rim ms)) d.each)
-      (subst (λ (g : Line). Some_of (λ t. Of_moving fs g (wall t)) (ss ++ s ∷ []) ⊎ Some_of (λ h. Same_way h g) (rim fs)) (sym e) (inl (some_last (λ t. Of_moving fs f (wall t)) ss s o)));
-  count = let n = length_push ss s in let m = d.count in omega arith;
-  small = All-push IsSmall ss s d.small b;
-}
+-- an edge that has a vertex strictly on its inner side has a direction, and so has the same edge turned round
+edge_directed : (e : Line) (vs : List Point) → Some_of (λ v. pos 0 <ℤ side e (mark_of v)) vs → half_turns (record { x = e.to.x -ℤ e.from.x; y = e.to.y -ℤ e.from.y }) < 2
+edge_directed e vs h = by (way (record { x = e.to.x -ℤ e.from.x; y = e.to.y -ℤ e.from.y }))
   where
-    widen : (g : Line) → Some_of (λ t. Of_moving fs g (wall t)) ss ⊎ Some_of (λ h. Same_way h g) (rim fs) → Some_of (λ t. Of_moving fs g (wall t)) (ss ++ s ∷ []) ⊎ Some_of (λ h. Same_way h g) (rim fs)
-    widen g (inl h) = inl (some_before (λ t. Of_moving fs g (wall t)) ss s h)
-    widen g (inr h) = inr h
+    few : (h k : ℕ) → h ≡ k → k < 2 → h < 2
+    few h k e l = omega arith
 
-pub done_joined : (fs ms : List Point) (ss : List Side) (i : ℕ) (f : Line) → Done fs ms ss i → i < length (rim ms) → get_or (rim ms) i f ≡ f → Some_of (λ e. Same_way e f) (rim fs) → Done fs ms ss (i + 1)
-done_joined fs ms ss i f d l e w = record {
-  sound = d.sound;
-  each = All-more (λ g. Some_of (λ t. Of_moving fs g (wall t)) ss ⊎ Some_of (λ h. Same_way h g) (rim fs)) (rim ms) i f l d.each
-      (subst (λ (g : Line). Some_of (λ t. Of_moving fs g (wall t)) ss ⊎ Some_of (λ h. Same_way h g) (rim fs)) (sym e) (inr w));
-  count = let m = d.count in omega arith;
-  small = d.small;
-}
+    by : Way (record { x = e.to.x -ℤ e.from.x; y = e.to.y -ℤ e.from.y }) → half_turns (record { x = e.to.x -ℤ e.from.x; y = e.to.y -ℤ e.from.y }) < 2
+    by (up k u) = few _ 0 k (omega arith)
+    by (down k l) = few _ 1 k (omega arith)
+    by (nowhere k x y) = absurd (let r = contains_from (λ v. pos 0 <ℤ side e (mark_of v)) vs h in no_side (e.to.x -ℤ e.from.x) (e.to.y -ℤ e.from.y) _ _ x y r.2)
+
+mirrored_directed : (f : Line) (vs : List Point) → Some_of (λ v. pos 0 <ℤ side f (mark_of v)) vs → half_turns (record { x = f.from.x -ℤ f.to.x; y = f.from.y -ℤ f.to.y }) < 2
+mirrored_directed f vs h = by (way (record { x = f.from.x -ℤ f.to.x; y = f.from.y -ℤ f.to.y }))
+  where
+    few : (h k : ℕ) → h ≡ k → k < 2 → h < 2
+    few h k e l = omega arith
+
+    round : (a b : ℤ) → a -ℤ b ≡ pos 0 → b -ℤ a ≡ pos 0
+    round a b e = omega (arith, linear)
+
+    by : Way (record { x = f.from.x -ℤ f.to.x; y = f.from.y -ℤ f.to.y }) → half_turns (record { x = f.from.x -ℤ f.to.x; y = f.from.y -ℤ f.to.y }) < 2
+    by (up k u) = few _ 0 k (omega arith)
+    by (down k l) = few _ 1 k (omega arith)
+    by (nowhere k x y) = absurd (let r = contains_from (λ v. pos 0 <ℤ side f (mark_of v)) vs h in no_side (f.to.x -ℤ f.from.x) (f.to.y -ℤ f.from.y) _ _ (round f.from.x f.to.x x) (round f.from.y f.to.y y) r.2)
+
+pub fixed_directed : (fs ms : List Point) (ss : List Side) → IsShape fs → AllZip (λ e s. Of_fixed ms e (wall s)) (rim fs) ss → All HasDirection ss
+fixed_directed fs ms ss f z = all_from_every HasDirection ss (every_then (λ s. Some_of (λ e. Of_fixed ms e (wall s)) (rim fs)) HasDirection (λ s h. at s h) ss (zip_back (λ e s. Of_fixed ms e (wall s)) (rim fs) ss z))
+  where
+    at : (s : Side) → Some_of (λ e. Of_fixed ms e (wall s)) (rim fs) → HasDirection s
+    at s h =
+        let p = pick (λ e. Of_fixed ms e (wall s)) (λ e. Some_of (λ v. pos 0 <ℤ side e (mark_of v)) fs) (rim fs) h (thick_from fs f) in
+        subst (λ (d : Point). half_turns d < 2) (sym (ap (λ (w : Wall). w.along) p.1.2)) (edge_directed p.0 fs p.2)
+
+pub moving_directed : (fs ms : List Point) (ts : List Side) → IsShape ms → AllZip (λ f s. Of_moving fs f (wall s)) (rim ms) ts → All HasDirection ts
+moving_directed fs ms ts m z = all_from_every HasDirection ts (every_then (λ s. Some_of (λ f. Of_moving fs f (wall s)) (rim ms)) HasDirection (λ s h. at s h) ts (zip_back (λ f s. Of_moving fs f (wall s)) (rim ms) ts z))
+  where
+    at : (s : Side) → Some_of (λ f. Of_moving fs f (wall s)) (rim ms) → HasDirection s
+    at s h =
+        let p = pick (λ f. Of_moving fs f (wall s)) (λ f. Some_of (λ v. pos 0 <ℤ side f (mark_of v)) ms) (rim ms) h (thick_from ms m) in
+        subst (λ (d : Point). half_turns d < 2) (sym (ap (λ (w : Wall). w.along) p.1.2)) (mirrored_directed p.0 ms p.2)

@@ -1,5 +1,6 @@
 -- The sides of the sum of a fixed shape and a mirrored moving one.
-use Rattle.std.specs.Prelude.{◌≡◌, ℤ, pos, ◌+ℤ◌, ◌-ℤ◌, ◌*ℤ◌, ◌<ℤ◌, List, map}
+use Rattle.std.specs.Prelude.{◌≡◌, ℤ, pos, ◌+ℤ◌, ◌-ℤ◌, ◌*ℤ◌, ◌<ℤ◌, List, map, All, Any}
+use Rattle.std.specs.List.{Contains}
 use Rattle.shape_exact.specs.declared.point.Point.{Point}
 use Rattle.shape_exact.specs.Separation.{IsWithin}
 use Rattle.shape_exact.proofs.Plane.{Edge as Line}
@@ -34,6 +35,14 @@ value s w = s.along.x *ℤ (w.y -ℤ s.at.y) -ℤ s.along.y *ℤ (w.x -ℤ s.at.
 abbrev pub OneWay : Side → Side → Type 0
 OneWay a b = (a.along.x *ℤ b.along.y -ℤ a.along.y *ℤ b.along.x ≡ pos 0) × (pos 0 <ℤ (a.along.x *ℤ b.along.x +ℤ a.along.y *ℤ b.along.y))
 
--- the sides are those of the sum of the fixed shape and the mirrored moving one
-abbrev pub IsSum : List Point → List Point → List Side → Type 0
-IsSum fixed moving sides = Is_sum fixed moving (map wall sides)
+-- each of the sides is one of `all`, and each of `all` has the direction of one of the sides
+pub record AreJoined (all sides : List Side) : Type 0 where
+  pub among : All (Contains all) sides
+  pub each : All (λ t. Any (λ s. OneWay s t) sides) all
+
+-- the sides are those of the sum of the fixed shape and the mirrored moving one: `all` has the side of each edge, and
+-- those of one direction may be joined
+pub record IsSum (fixed moving : List Point) (sides : List Side) : Type 0 where
+  pub all : List Side
+  pub sum : Is_sum fixed moving (map wall all)
+  pub joined : AreJoined all sides

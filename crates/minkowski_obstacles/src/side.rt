@@ -1,6 +1,6 @@
 //! Sides of a sum.
-ghost use Rattle.std.specs.Prelude.{◌≡◌, ◌≤◌, true};
-ghost use Rattle.minkowski_obstacles.specs.Sums.{IsSmall, fixed_side, moving_side, value, OneWay};
+ghost use Rattle.std.specs.Prelude.{◌≡◌, ◌≤◌};
+ghost use Rattle.minkowski_obstacles.specs.Sums.{IsSmall, fixed_side, moving_side, value};
 ghost use Rattle.shape_exact.specs.Separation.{IsWithin};
 
 use crate::edge::{Edge, product};
@@ -61,15 +61,5 @@ impl Side {
         ensures { result ≡ value self w }
     {
         product(self.along.x, self.along.y, w.x - self.at.x, w.y - self.at.y)
-    }
-
-    /// Whether two sides have one direction.
-    pub(crate) fn has_direction_of(self, other: Side) -> bool
-        requires small { IsSmall self }
-        requires other { IsSmall other }
-        ensures { result ≡ true → OneWay self other }
-    {
-        let (a, b) = (self.along, other.along);
-        product(a.x, a.y, b.x, b.y) == 0 && product(a.x, a.y, -b.y, b.x) > 0
     }
 }

@@ -2,6 +2,7 @@
 ghost use Rattle.std.specs.Prelude.{◌≡◌, ℕ, ◌≤◌, ◌<◌, pos, ◌≤ℤ◌, negsuc, length};
 
 use crate::Obstacle;
+use crate::sides::sides_of;
 use shape_exact::{Point, Shape, apart};
 
 /// The shape of the points, which are given as pairs of coordinates.
@@ -53,6 +54,24 @@ fn border_of_a_triangle_and_its_half_turn(rt: HostRuntime) {
             "at {x} {y}"
         );
     }
+}
+
+fn side_count(fixed: &Shape, moving: &Shape) -> usize {
+    sides_of(fixed.points(), moving.points()).len()
+}
+
+/// Edges of one direction are one side: of both shapes, and of one shape that has a vertex within a side.
+#[test]
+fn sides_of_one_direction_are_one(rt: HostRuntime) {
+    let triangle = half_triangle();
+    let square = shape_of(&[(0, 0), (2, 0), (2, 2), (0, 2)]);
+    let parted = shape_of(&[(0, 0), (1, 0), (3, 0), (3, 1), (0, 1)]);
+    assert_eq!(rt; side_count(&square, &square), 4);
+    assert_eq!(rt; side_count(&parted, &square), 4);
+    assert_eq!(rt; side_count(&square, &parted), 4);
+    assert_eq!(rt; side_count(&triangle, &triangle.turned(2)), 3);
+    assert_eq!(rt; side_count(&triangle, &triangle), 6);
+    assert_eq!(rt; side_count(&square, &triangle), 5);
 }
 
 /// The first and the last x from -20 to 20 at which the shapes are not apart, by the test of each; None where the

@@ -1,37 +1,34 @@
-use Rattle.std.proofs.Common.{arith, length, ◌≤◌, ◌<◌, ◌+◌, List, sym, subst, ap, ◌∙◌, ◌⊎◌}
-use Rattle.std.specs.List.{All}
+use Rattle.std.proofs.Common.{arith, length, take, ◌≤◌, ◌<◌, ◌+◌, sym, subst}
+use Rattle.std.specs.List.{AllZip, All}
 use Rattle.std.proofs.lemmas.List.{take_all}
-use Rattle.shape_exact.proofs.Plane.{rim, Some_of}
-use Rattle.shape_exact.proofs.SumLaws.{Of_moving, Same_way}
+use Rattle.std.proofs.lemmas.List.Elements.{All-push}
+use Rattle.shape_exact.proofs.Plane.{Edge as Line, rim}
+use Rattle.shape_exact.proofs.SumLaws.{Of_moving}
 use Rattle.shape_exact.proofs.RimLaws.{length-rim}
+use Rattle.shape_exact.proofs.ZipLaws.{zip_more}
 use Rattle.minkowski_obstacles.specs.declared.side.Side.{Side}
-use Rattle.minkowski_obstacles.specs.Sums.{line, wall}
-use Rattle.minkowski_obstacles.proofs.SideLaws.{Done, done_kept, done_joined, of_moving_is, joined_is}
+use Rattle.minkowski_obstacles.specs.Sums.{line, wall, IsSmall}
+use Rattle.minkowski_obstacles.proofs.SideLaws.{of_moving_is}
 use Rattle.minkowski_obstacles.proofs.sides.moving_sides.Goals as goal
-use Rattle.minkowski_obstacles.proofs.sides.moving_sides.Goals.{then-not-has_direction, else-not-has_direction}
 
 pub loop-i-preserved : goal.loop-i-preserved
 loop-i-preserved c =
-    let fs = c.args.fixed.now in
-    let ms = c.args.moving.now in
-    let n = length-rim ms in
-    let lt : c.loop-i.i < length (rim ms) = omega arith in
-    let f = line c.of-f.result in
-    let s = c.of_moving-s.result in
-    let is = c.of-f.ensures.is f in
-    elim c.if-not-has_direction.branch [
-      | then-not-has_direction w ↦
-          subst (λ (ss : List Side). Done fs ms ss (c.loop-i.i + 1)) (sym w.push.ensures.items ∙ sym (ap (λ v. v.items) w.sides-is))
-          (done_kept fs ms c.loop-i.sides.items c.loop-i.i f s c.loop-i.invariant lt is
-          (of_moving_is c.of-f.result fs c.furthest.result s c.furthest.ensures.member c.furthest.ensures.furthest c.of_moving-s.ensures.is) c.of_moving-s.ensures.small)
-      | else-not-has_direction w ↦
-          subst (λ (ss : List Side). Done fs ms ss (c.loop-i.i + 1)) (sym (ap (λ v. v.items) w.sides-is))
-          (done_joined fs ms c.loop-i.sides.items c.loop-i.i f c.loop-i.invariant lt is
-          (joined_is fs ms c.args.joined.now c.of-f.result c.furthest.result s c.requires.joined (c.has_direction.ensures w.if-not-has_direction.false) c.of_moving-s.ensures.is))
-    ]
+    let es = rim c.args.moving.now in
+    let n = length-rim c.args.moving.now in
+    let lt : c.loop-i.i < length es = omega arith in
+    let R : Line → Side → Type 0 = λ f s. Of_moving c.args.fixed.now f (wall s) in
+    let f = c.of-f.result in
+    let s = c.of_moving.result in
+    let made : R (line f) s = of_moving_is f c.args.fixed.now c.furthest.result s c.furthest.ensures.member c.furthest.ensures.furthest c.of_moving.ensures.is in
+    let zip = zip_more R es c.loop-i.sides.items c.loop-i.i (line f) s lt (c.of-f.ensures.is (line f)) c.loop-i.invariant.zip made in
+    record {
+      zip = subst (λ bs. AllZip R (take (c.loop-i.i + 1) es) bs) (sym c.push.ensures.items) zip;
+      count = let l = c.push.ensures.len in let k = c.loop-i.invariant.count in omega arith;
+      small = subst (λ bs. All IsSmall bs) (sym c.push.ensures.items) (All-push IsSmall c.loop-i.sides.items s c.loop-i.invariant.small c.of_moving.ensures.small);
+    }
 
-pub returns-clause-each : goal.returns-clause-each
-returns-clause-each c =
+pub returns-clause-sides : goal.returns-clause-sides
+returns-clause-sides c =
     let n = length-rim c.args.moving.now in
     let le : length (rim c.args.moving.now) ≤ c.loop-i.i = omega arith in
-    subst (λ es. All (λ f. Some_of (λ s. Of_moving c.args.fixed.now f (wall s)) c.loop-i.sides.items ⊎ Some_of (λ e. Same_way e f) (rim c.args.fixed.now)) es) (take_all c.loop-i.i (rim c.args.moving.now) le) c.loop-i.invariant.each
+    subst (λ es. AllZip (λ f s. Of_moving c.args.fixed.now f (wall s)) es c.loop-i.sides.items) (take_all c.loop-i.i (rim c.args.moving.now) le) c.loop-i.invariant.zip
