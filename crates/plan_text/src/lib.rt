@@ -2,10 +2,20 @@
 //!
 //! The text of a plan is the line `plan 1`, a line for each block in file order, and the line `total T`; the text of no
 //! plan is the line `no plan`. Each line ends with a line feed, and one space stands between words.
+//!
+//! A text is read line after line, and refused with its first fault, which names the line, counted from 1.
 #![tactic(auto)]
 
+mod fault;
+mod form;
 mod names;
 mod print;
+mod reading;
 mod rows;
+#[cfg(test)]
+mod tests;
+mod told;
 
+pub use fault::PlanFault;
 pub use print::print_plan;
+pub use reading::read_plan;
