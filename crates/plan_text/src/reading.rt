@@ -67,6 +67,7 @@ fn planned(alloc: Global, codes: &Codes, bytes: &[u8]) -> Result<Plan, PlanFault
     Ok(plan)
 }
 
+/// The plan, or none, that the bytes are read as.
 fn plan_of(alloc: Global, codes: &Codes, bytes: &[u8]) -> Result<Option<Plan>, PlanFault>
     ensures { spec.Gives (λ t. t) result (spec.plan_of codes.now bytes.now) }
 {
