@@ -13,7 +13,7 @@ use shape_exact::{Point, Shape};
 use std::marker::Model;
 
 /// The offsets of a moving footprint at which it has a point strictly inside in common with a fixed one at (0, 0).
-/// Contracts see it as the two footprints.
+/// Contracts see it as the two footprints. It keeps the sides of their sum, strictly ascending by direction.
 #[derive(Clone, Drop)]
 pub struct Obstacle {
     fixed: Shape,
