@@ -6,19 +6,6 @@ ghost use Rattle.shape_exact.specs.Separation.{IsWithin};
 use crate::edge::Edge;
 use shape_exact::Point;
 
-/// The one of two vertices that lies further inside the edge, and the first where they lie equally far.
-fn further(e: Edge, a: Point, b: Point) -> Point
-    requires from { IsWithin 2000 e.from }
-    requires to { IsWithin 2000 e.to }
-    requires a { IsWithin 2000 a }
-    requires b { IsWithin 2000 b }
-    ensures either { (result ≡ a) ⊎ (result ≡ b) }
-    ensures past_a { cross e.from e.to a ≤ℤ cross e.from e.to result }
-    ensures past_b { cross e.from e.to b ≤ℤ cross e.from e.to result }
-{
-    if e.height(a) < e.height(b) { b } else { a }
-}
-
 /// The first vertex that lies furthest inside the edge.
 pub(crate) fn furthest(e: Edge, vertices: &[Point]) -> Point
     requires from { IsWithin 2000 e.from }
@@ -30,8 +17,13 @@ pub(crate) fn furthest(e: Edge, vertices: &[Point]) -> Point
     ensures within { IsWithin 2000 result }
 {
     let mut best = vertices[0];
+    let mut height = e.height(best);
     for v in vertices {
-        best = further(e, best, *v);
+        let other = e.height(*v);
+        if height < other {
+            best = *v;
+            height = other;
+        }
     }
     best
 }
