@@ -1,12 +1,12 @@
 -- Sides of one direction stand for one another.
-use Rattle.std.proofs.Common.{◌≡◌, sym, ap, ◌∙◌, subst, arith, ℕ, ◌+◌, ◌<◌, ◌≤◌, true, false, List, [], ◌∷◌, ◌++◌, length, take, get_or, map, ◌⊎◌, inl, inr}
+use Rattle.std.proofs.Common.{◌≡◌, sym, ap, ◌∙◌, subst, arith, ℕ, ◌+◌, ◌<◌, ◌≤◌, true, false, List, [], ◌∷◌, ◌++◌, length, take, get_or, map, append_assoc, ◌⊎◌, inl, inr}
 use Rattle.std.specs.List.{All, Any, Contains}
-use Rattle.std.specs.List.Sorted.{IsSortedBy}
+use Rattle.std.specs.List.Sorted.{IsSortedBy, IsPermutation}
 use Rattle.std.proofs.lemmas.Bool.{cases_lt}
-use Rattle.std.proofs.lemmas.List.{length_push, get_or-take, get_or_default, length-take-le}
-use Rattle.std.proofs.lemmas.List.Elements.{All-push, All-take, All-weaker, All-contains, All-contains_itself, Contains-append_left, Contains-push}
+use Rattle.std.proofs.lemmas.List.{length_push, take_more, get_or_default}
+use Rattle.std.proofs.lemmas.List.Elements.{All-nil, All-push, All-weaker, All-contains, All-contains_itself, Contains-append_left, Contains-push}
 use Rattle.std.proofs.lemmas.List.Quantifiers.{Any-push, all_pairs_push}
-use Rattle.std.proofs.lemmas.List.Sorted.{sorted_far}
+use Rattle.std.proofs.lemmas.List.Sorted.{sorted_far, All-permutation, Contains-permutation, length_permutation, IsPermutation-append_right, IsPermutation-append_comm, IsPermutation-to_front}
 use Rattle.shape_exact.specs.declared.point.Point.{Point}
 use Rattle.shape_exact.proofs.RingLaws.{ring, linear}
 use Rattle.shape_exact.proofs.Plane.{side, rim, Every, Some_of, mark_of}
@@ -17,8 +17,8 @@ use Rattle.shape_exact.proofs.SumLaws.{Side as Wall, value as height, Of_fixed, 
 use Rattle.shape_exact.proofs.BridgeLaws.{every_from_All, some_from_Any}
 use Rattle.minkowski_obstacles.specs.declared.side.Side.{Side}
 use Rattle.minkowski_obstacles.specs.Sums.{wall, value, OneWay, AreJoined}
-use Rattle.minkowski_obstacles.specs.Merged.{comes_before, HasDirection, IsAscending}
-use Rattle.minkowski_obstacles.proofs.DirectionLaws.{by_turn, comes_then, not_itself, tied}
+use Rattle.minkowski_obstacles.specs.Merged.{comes_before, HasDirection, IsAscending, IsKept, IsNext}
+use Rattle.minkowski_obstacles.proofs.DirectionLaws.{by_turn, one_way, chain, comes_then, not_itself, tied}
 use Rattle.minkowski_obstacles.proofs.SideLaws.{some_before, contains_from, all_from_every, some_from_contains}
 use lib.IntN.{ℤ, pos, ◌+ℤ◌, ◌-ℤ◌, ◌*ℤ◌}
 use lib.Signed.{◌<ℤ◌, ◌≤ℤ◌}
@@ -37,7 +37,7 @@ any_before P xs y h = let r = contains_from P (xs ++ y ∷ []) (some_before P xs
 itself : (s : Side) → HasDirection s → OneWay s s
 itself s h = tied s.along s.along (not_itself s.along) (not_itself s.along) h
 
-pub kept_new : (xs ks : List Side) (s : Side) → Kept xs ks → HasDirection s → All (λ k. comes_before k.along s.along ≡ true) ks → Kept (xs ++ s ∷ []) (ks ++ s ∷ [])
+kept_new : (xs ks : List Side) (s : Side) → Kept xs ks → HasDirection s → All (λ k. comes_before k.along s.along ≡ true) ks → Kept (xs ++ s ∷ []) (ks ++ s ∷ [])
 kept_new xs ks s j h b = record {
   joined = record {
     among = All-push (Contains (xs ++ s ∷ [])) ks s (All-weaker (Contains xs) (Contains (xs ++ s ∷ [])) (λ k c. Contains-append_left xs (s ∷ []) k c) ks j.joined.among) (Contains-push xs s);
@@ -49,7 +49,7 @@ kept_new xs ks s j h b = record {
   count = let m = length_push xs s in let n = length_push ks s in let l = j.count in omega arith;
 }
 
-pub kept_old : (xs ks : List Side) (s : Side) → Kept xs ks → Any (λ k. OneWay k s) ks → Kept (xs ++ s ∷ []) ks
+kept_old : (xs ks : List Side) (s : Side) → Kept xs ks → Any (λ k. OneWay k s) ks → Kept (xs ++ s ∷ []) ks
 kept_old xs ks s j a = record {
   joined = record {
     among = All-weaker (Contains xs) (Contains (xs ++ s ∷ [])) (λ k c. Contains-append_left xs (s ∷ []) k c) ks j.joined.among;
@@ -59,18 +59,97 @@ kept_old xs ks s j a = record {
   count = let m = length_push xs s in let l = j.count in omega arith;
 }
 
--- the next of the sorted sides comes before none that is kept
-pub behind : (sides ks : List Side) (i : ℕ) (d : Side) → i < length sides → IsSortedBy (λ a b. comes_before a.along b.along) sides → All (Contains (take i sides)) ks → All (λ k. comes_before (get_or sides i d).along k.along ≡ false) ks
-behind sides ks i d l o a = All-weaker (Contains (take i sides)) (λ k. comes_before (get_or sides i d).along k.along ≡ false) (λ k c. at k c) ks a
-  where
-    at : (k : Side) → Contains (take i sides) k → comes_before (get_or sides i d).along k.along ≡ false
-    at k c =
-        let n : c.0 < i = (let m = length-take-le i sides (omega arith) in let h = c.1 in omega arith) in
-        let e = get_or_default sides c.0 d k (omega arith) ∙ sym (get_or-take i sides c.0 k n) ∙ c.2 in
-        subst (λ (t : Side). comes_before (get_or sides i d).along t.along ≡ false) e (sorted_far (λ (s t : Side). comes_before s.along t.along) by_turn sides o c.0 i d (omega arith) l)
+kept_more : (xs ks ts : List Side) (s : Side) → Kept xs ks → HasDirection s → IsKept ks s ts → Kept (xs ++ s ∷ []) ts
+kept_more xs ks ts s j h (inl b) = subst (λ (us : List Side). Kept (xs ++ s ∷ []) us) (sym b.1) (kept_new xs ks s j h b.0)
+kept_more xs ks ts s j h (inr a) = subst (λ (us : List Side). Kept (xs ++ s ∷ []) us) (sym a.1) (kept_old xs ks s j a.0)
 
-pub kept_directed : (sides ks : List Side) (i : ℕ) → All HasDirection sides → All (Contains (take i sides)) ks → All HasDirection ks
-kept_directed sides ks i h a = All-weaker (Contains (take i sides)) HasDirection (λ k c. All-contains HasDirection (take i sides) k (All-take HasDirection i sides h) c) ks a
+-- what holds of each that was kept and of the next holds of each that is kept
+all_kept : (P : Side → Type 0) (ks ts : List Side) (s : Side) → IsKept ks s ts → All P ks → P s → All P ts
+all_kept P ks ts s (inl b) h p = subst (λ (us : List Side). All P us) (sym b.1) (All-push P ks s h p)
+all_kept P ks ts s (inr a) h p = subst (λ (us : List Side). All P us) (sym a.1) h
+
+-- the order of the sides does not matter
+kept_permuted : (xs ys ks : List Side) → IsPermutation xs ys → Kept xs ks → Kept ys ks
+kept_permuted xs ys ks p j = record {
+  joined = record {
+    among = All-weaker (Contains xs) (Contains ys) (λ k c. Contains-permutation xs ys k p c) ks j.joined.among;
+    each = All-permutation (λ t. Any (λ k. OneWay k t) ks) xs ys p j.joined.each;
+  };
+  ascending = j.ascending;
+  count = let n = length_permutation xs ys p in let l = j.count in omega arith;
+}
+
+inserted : (xs ys : List Side) (s : Side) → IsPermutation ((xs ++ ys) ++ s ∷ []) ((xs ++ s ∷ []) ++ ys)
+inserted xs ys s =
+    subst (λ (us : List Side). IsPermutation us ((xs ++ s ∷ []) ++ ys)) (sym (append_assoc xs ys (s ∷ [])))
+    (subst (λ (us : List Side). IsPermutation (xs ++ (ys ++ s ∷ [])) us) (sym (append_assoc xs (s ∷ []) ys))
+    (IsPermutation-append_right xs (ys ++ s ∷ []) (s ∷ ys) (IsPermutation-to_front ys s)))
+
+-- ---- merging two sorted lists
+abbrev IsSorted : List Side → Type 0
+IsSorted xs = IsSortedBy (λ a b. comes_before a.along b.along) xs
+
+pub next_turned : (xs ys : List Side) (i j : ℕ) (d : Side) → j < length ys → comes_before (get_or ys j d).along (get_or xs i d).along ≡ true → IsNext ys j xs i
+next_turned xs ys i j d l b = (
+  l,
+  λ e n. subst (λ (s : Side). comes_before (get_or xs i e).along s.along ≡ false) (get_or_default ys j d e l)
+      (subst (λ (s : Side). comes_before s.along (get_or ys j d).along ≡ false) (get_or_default xs i d e n) (one_way (get_or ys j d).along (get_or xs i d).along b)),
+)
+
+-- i sides of the one list and j of the other are done: no later one comes before one that is kept
+pub record Merging (xs ys : List Side) (i j : ℕ) (ks : List Side) : Type 0 where
+  pub first : i ≤ length xs
+  pub second : j ≤ length ys
+  pub kept : Kept (take i xs ++ take j ys) ks
+  pub after_first : (k : ℕ) (d : Side) → i ≤ k → k < length xs → All (λ s. comes_before (get_or xs k d).along s.along ≡ false) ks
+  pub after_second : (k : ℕ) (d : Side) → j ≤ k → k < length ys → All (λ s. comes_before (get_or ys k d).along s.along ≡ false) ks
+  pub directed : All HasDirection ks
+
+pub merging_none : (xs ys : List Side) → Merging xs ys 0 0 []
+merging_none xs ys = record {
+  first = omega arith;
+  second = omega arith;
+  kept = record {
+    joined = record { among = All-nil (Contains (take 0 xs ++ take 0 ys)); each = λ k d l. absurd (omega arith) };
+    ascending = λ i j d l m. absurd (omega arith);
+    count = omega arith;
+  };
+  after_first = λ k d l m. All-nil (λ s. comes_before (get_or xs k d).along s.along ≡ false);
+  after_second = λ k d l m. All-nil (λ s. comes_before (get_or ys k d).along s.along ≡ false);
+  directed = All-nil HasDirection;
+}
+
+pub merging_turned : (xs ys : List Side) (i j : ℕ) (ks : List Side) → Merging xs ys i j ks → Merging ys xs j i ks
+merging_turned xs ys i j ks m = record {
+  first = m.second;
+  second = m.first;
+  kept = kept_permuted (take i xs ++ take j ys) (take j ys ++ take i xs) ks (IsPermutation-append_comm (take i xs) (take j ys)) m.kept;
+  after_first = m.after_second;
+  after_second = m.after_first;
+  directed = m.directed;
+}
+
+pub merging_more : (xs ys : List Side) (i j : ℕ) (d : Side) (ks ts : List Side) → IsSorted xs → IsSorted ys → All HasDirection xs → Merging xs ys i j ks → IsNext xs i ys j → IsKept ks (get_or xs i d) ts → Merging xs ys (i + 1) j ts
+merging_more xs ys i j d ks ts p q h m n k = record {
+  first = let l = n.0 in omega arith;
+  second = m.second;
+  kept = subst (λ (us : List Side). Kept (us ++ take j ys) ts) (sym (take_more xs i d n.0))
+      (kept_permuted ((take i xs ++ take j ys) ++ get_or xs i d ∷ []) ((take i xs ++ get_or xs i d ∷ []) ++ take j ys) ts (inserted (take i xs) (take j ys) (get_or xs i d))
+      (kept_more (take i xs ++ take j ys) ks ts (get_or xs i d) m.kept (h i d n.0) k));
+  after_first = λ l e a b. all_kept (λ s. comes_before (get_or xs l e).along s.along ≡ false) ks ts (get_or xs i d) k (m.after_first l e (omega arith) b) (later l e a b);
+  after_second = λ l e a b. all_kept (λ s. comes_before (get_or ys l e).along s.along ≡ false) ks ts (get_or xs i d) k (m.after_second l e a b) (other l e a b);
+  directed = all_kept HasDirection ks ts (get_or xs i d) k m.directed (h i d n.0);
+}
+  where
+    later : (l : ℕ) (e : Side) → i + 1 ≤ l → l < length xs → comes_before (get_or xs l e).along (get_or xs i d).along ≡ false
+    later l e a b =
+        subst (λ (s : Side). comes_before (get_or xs l e).along s.along ≡ false) (get_or_default xs i e d n.0)
+        (sorted_far (λ (s t : Side). comes_before s.along t.along) by_turn xs p i l e (omega arith) b)
+
+    other : (l : ℕ) (e : Side) → j ≤ l → l < length ys → comes_before (get_or ys l e).along (get_or xs i d).along ≡ false
+    other l e a b =
+        subst (λ (s : Side). comes_before (get_or ys l e).along s.along ≡ false) (get_or_default xs i e d n.0)
+        (chain (get_or ys l e).along (get_or ys j e).along (get_or xs i e).along (sorted_far (λ (s t : Side). comes_before s.along t.along) by_turn ys q j l e a b) (n.1 e (omega arith)))
 
 -- ---- the last of the ascending sides decides
 pub after_last : (ks : List Side) (s : Side) (n : ℕ) (d : Side) → n + 1 ≡ length ks → IsAscending ks → comes_before (get_or ks n d).along s.along ≡ true → All (λ k. comes_before k.along s.along ≡ true) ks

@@ -1,9 +1,10 @@
 -- Directions in the order of a turn, and sides merged by it.
-use Rattle.std.specs.Prelude.{ℕ, ℤ, pos, ◌-ℤ◌, ◌*ℤ◌, ◌<◌, Bool, ◌&&◌, ◌||◌, if◌then◌else◌, ◌==◌, nat_lt, int_lt, IsTrue, List}
+use Rattle.std.specs.Prelude.{◌≡◌, ℕ, ℤ, pos, ◌-ℤ◌, ◌*ℤ◌, ◌<◌, ◌⊎◌, Bool, true, false, ◌&&◌, ◌||◌, if◌then◌else◌, ◌==◌, nat_lt, int_lt, IsTrue, List, [], ◌∷◌, ◌++◌, All, Any, length, slice_index_or}
 use Rattle.std.specs.List.{AllPairs}
 use Rattle.std.specs.Ordering.{int_eq}
 use Rattle.shape_exact.specs.declared.point.Point.{Point}
 use Rattle.minkowski_obstacles.specs.declared.side.Side.{Side}
+use Rattle.minkowski_obstacles.specs.Sums.{OneWay}
 
 -- the direction goes up, or straight to the right
 abbrev pub is_upper : Point → Bool
@@ -33,3 +34,15 @@ HasDirection s = half_turns s.along < 2
 -- the direction of each side comes strictly before that of each later one: merged by direction, and no two of one
 abbrev pub IsAscending : List Side → Type 0
 IsAscending sides = AllPairs (λ s t. IsTrue (comes_before s.along t.along)) sides
+
+-- the next side is kept after those kept so far, all of which come before it, or one of them has its direction
+abbrev pub IsKept : List Side → Side → List Side → Type 0
+IsKept kept next now =
+    (All (λ s. comes_before s.along next.along ≡ true) kept × (now ≡ kept ++ next ∷ []))
+    ⊎ (Any (λ s. OneWay s next) kept × (now ≡ kept))
+
+-- the one list has a side number i, and the other none number j that comes before it
+abbrev pub IsNext : List Side → ℕ → List Side → ℕ → Type 0
+IsNext one i other j =
+    (i < length one)
+    × ((d : Side) → j < length other → comes_before (slice_index_or other j d).along (slice_index_or one i d).along ≡ false)

@@ -83,7 +83,7 @@ fn row_within(sides: &[Side], y: i32) -> Stretch
 
 impl Obstacle {
     /// The obstacle of a fixed footprint for a moving one. Costs in the order of the product of the numbers of vertices:
-    /// two passes of that size, a sort of at most 32 sides, and a pass that joins those of one direction.
+    /// two passes of that size, two sorts of at most 16 sides, and a pass that merges them.
     pub fn of(fixed: &Shape, moving: &Shape) -> Obstacle
         ensures { result ≡ record { fixed = fixed.now; moving = moving.now } }
     {

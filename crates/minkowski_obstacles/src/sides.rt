@@ -1,5 +1,5 @@
 //! The sides of the sum of a fixed shape and a mirrored moving one.
-ghost use Rattle.std.specs.Prelude.{◌≡◌, ◌≤◌, ◌++◌, true, false, All, Any, length};
+ghost use Rattle.std.specs.Prelude.{◌≡◌, ◌<◌, ◌≤◌, ◌⊎◌, ◌++◌, true, false, All, Any, length};
 ghost use Rattle.std.specs.List.{AllZip};
 ghost use Rattle.std.specs.List.Sorted.{IsPermutation, IsSortedBy};
 ghost use Rattle.shape_exact.specs.Separation.{IsWithin};
@@ -7,7 +7,7 @@ ghost use Rattle.shape_exact.specs.Shapes.{IsShape};
 ghost use Rattle.shape_exact.proofs.Plane.{rim};
 ghost use Rattle.shape_exact.proofs.SumLaws.{Of_fixed, Of_moving};
 ghost use Rattle.minkowski_obstacles.specs.Sums.{AreJoined, IsSmall, OneWay, wall, IsSum};
-ghost use Rattle.minkowski_obstacles.specs.Merged.{comes_before, HasDirection, IsAscending};
+ghost use Rattle.minkowski_obstacles.specs.Merged.{comes_before, HasDirection, IsAscending, IsKept, IsNext};
 
 use crate::direction::by_direction;
 use crate::edge::Edge;
@@ -50,29 +50,12 @@ fn moving_sides(fixed: &[Point], moving: &[Point]) -> ArrayVec<Side, 16>
     sides
 }
 
-/// The sides of both lists, first the one and then the other.
-fn all_sides(first: &[Side], second: &[Side]) -> ArrayVec<Side, 32>
-    requires first { length first.now ≤ 16 }
-    requires second { length second.now ≤ 16 }
-    ensures { result.items ≡ first.now ++ second.now }
-{
-    let mut sides = ArrayVec::new();
-    for s in first {
-        sides.push(*s);
-    }
-    for s in second {
-        sides.push(*s);
-    }
-    sides
-}
-
 /// The same sides, counterclockwise by direction, from straight right on.
-fn ordered(mut sides: ArrayVec<Side, 32>) -> ArrayVec<Side, 32>
-    ensures same { IsPermutation sides.items result.items }
-    ensures sorted { IsSortedBy (λ a b. comes_before a.along b.along) result.items }
+fn order(sides: &mut ArrayVec<Side, 16>)
+    ensures same { IsPermutation sides.old.items sides.new.items }
+    ensures sorted { IsSortedBy (λ a b. comes_before a.along b.along) sides.new.items }
 {
     sides.sort_unstable_by(|a, b| by_direction(a, b));
-    sides
 }
 
 /// Whether none of the sides kept so far has the direction of the next one.
@@ -90,18 +73,57 @@ fn is_new(kept: &[Side], next: &Side) -> bool
     }
 }
 
-/// The first side of each direction.
-fn joined(sides: &[Side]) -> ArrayVec<Side, 32>
-    requires few { length sides.now ≤ 32 }
-    requires sorted { IsSortedBy (λ a b. comes_before a.along b.along) sides.now }
-    requires directed { All HasDirection sides.now }
-    ensures joined { AreJoined sides.now result.items }
+/// Keeps the next side where none kept so far has its direction.
+fn keep(kept: &mut ArrayVec<Side, 32>, next: &Side)
+    requires room { length kept.old.items < 32 }
+    requires ascending { IsAscending kept.old.items }
+    requires behind { All (λ s. comes_before next.now.along s.along ≡ false) kept.old.items }
+    requires kept { All HasDirection kept.old.items }
+    requires next { HasDirection next.now }
+    ensures { IsKept kept.old.items next.now kept.new.items }
+{
+    if is_new(kept.as_slice(), next) {
+        kept.push(*next);
+    }
+}
+
+/// Whether the next side in the order of directions is the first list's, after `i` of it and `j` of the second.
+fn first_is_next(first: &[Side], i: usize, second: &[Side], j: usize) -> bool
+    requires some { (i < length first.now) ⊎ (j < length second.now) }
+    requires first { i ≤ length first.now }
+    requires second { j ≤ length second.now }
+    ensures yes { result ≡ true → IsNext first.now i second.now j }
+    ensures no { result ≡ false → IsNext second.now j first.now i }
+{
+    if i == first.len() {
+        return false;
+    }
+    if j == second.len() {
+        return true;
+    }
+    !by_direction(&second[j], &first[i]).is_lt()
+}
+
+/// The sides of two lists in the order of directions, in that order, and of each direction the first.
+fn merged(first: &[Side], second: &[Side]) -> ArrayVec<Side, 32>
+    requires first { length first.now ≤ 16 }
+    requires second { length second.now ≤ 16 }
+    requires first_sorted { IsSortedBy (λ a b. comes_before a.along b.along) first.now }
+    requires second_sorted { IsSortedBy (λ a b. comes_before a.along b.along) second.now }
+    requires first_directed { All HasDirection first.now }
+    requires second_directed { All HasDirection second.now }
+    ensures joined { AreJoined (first.now ++ second.now) result.items }
     ensures ascending { IsAscending result.items }
 {
     let mut kept = ArrayVec::new();
-    for s in sides {
-        if is_new(kept.as_slice(), s) {
-            kept.push(*s);
+    let (mut i, mut j) = (0, 0);
+    while i < first.len() || j < second.len() {
+        if first_is_next(first, i, second, j) {
+            keep(&mut kept, &first[i]);
+            i += 1;
+        } else {
+            keep(&mut kept, &second[j]);
+            j += 1;
         }
     }
     kept
@@ -115,8 +137,9 @@ pub(crate) fn sides_of(fixed: &[Point], moving: &[Point]) -> ArrayVec<Side, 32>
     ensures ascending { IsAscending result.items }
     ensures small { All IsSmall result.items }
 {
-    let of_fixed = fixed_sides(fixed, moving);
-    let of_moving = moving_sides(fixed, moving);
-    let all = ordered(all_sides(of_fixed.as_slice(), of_moving.as_slice()));
-    joined(all.as_slice())
+    let mut of_fixed = fixed_sides(fixed, moving);
+    let mut of_moving = moving_sides(fixed, moving);
+    order(&mut of_fixed);
+    order(&mut of_moving);
+    merged(of_fixed.as_slice(), of_moving.as_slice())
 }

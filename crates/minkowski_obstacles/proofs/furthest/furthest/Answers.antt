@@ -1,4 +1,4 @@
-use Rattle.std.proofs.Common.{ℤ, pos, ◌≡◌, ◌∙◌, ◌+◌, ◌≤ℤ◌, w32, FitsSigned, to_z, of_z, true, false, arith, take, get_or, sym, ap, subst}
+use Rattle.std.proofs.Common.{ℤ, pos, ◌≡◌, ◌∙◌, ◌+◌, ◌≤ℤ◌, w32, FitsSigned, true, false, arith, take, get_or, sym, ap, subst}
 use lib.Signed.{lt_z}
 use Rattle.std.specs.List.{All, Contains}
 use Rattle.std.proofs.lemmas.Int.{to_z-of_z}

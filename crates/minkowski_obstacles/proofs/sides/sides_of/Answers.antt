@@ -1,11 +1,11 @@
 use Rattle.std.proofs.Common.{◌≡◌, ◌++◌, List, sym, subst}
 use Rattle.std.specs.List.{All, Contains}
 use Rattle.std.specs.List.Sorted.{IsPermutation}
-use Rattle.std.proofs.lemmas.List.Sorted.{All-permutation}
+use Rattle.std.proofs.lemmas.List.Sorted.{All-permutation, IsPermutation-append}
 use Rattle.std.proofs.lemmas.List.Elements.{All-append, All-weaker, All-contains}
 use Rattle.shape_exact.proofs.FormLaws.{within}
 use Rattle.minkowski_obstacles.specs.declared.side.Side.{Side}
-use Rattle.minkowski_obstacles.specs.Sums.{AreJoined, IsSmall}
+use Rattle.minkowski_obstacles.specs.Sums.{IsSmall}
 use Rattle.minkowski_obstacles.specs.Merged.{HasDirection}
 use Rattle.minkowski_obstacles.proofs.SideLaws.{sum_from, sum_permuted, fixed_directed, moving_directed}
 use Rattle.minkowski_obstacles.proofs.sides.sides_of.Goals as goal
@@ -22,21 +22,20 @@ moving_sides-of_moving-requires-clause-fixed c = within c.args.fixed.now c.requi
 pub moving_sides-of_moving-requires-clause-moving : goal.moving_sides-of_moving-requires-clause-moving
 moving_sides-of_moving-requires-clause-moving c = within c.args.moving.now c.requires.moving
 
-made : (all first second ss ts : List Side) → all ≡ first ++ second → first ≡ ss → second ≡ ts → all ≡ ss ++ ts
-made all first second ss ts e f g = cc
+-- what holds of sides holds of the same sides in order, as they are lent
+in_order : (P : Side → Type 0) (ss sorted lent : List Side) → IsPermutation ss sorted → lent ≡ sorted → All P ss → All P lent
+in_order P ss sorted lent p e h = subst (λ (xs : List Side). All P xs) (sym e) (All-permutation P ss sorted p h)
 
--- what holds of all sides in their first order holds of them in the order of directions
-sorted_all : (P : Side → Type 0) (ss ts all sorted lent : List Side) → all ≡ ss ++ ts → IsPermutation all sorted → lent ≡ sorted → All P ss → All P ts → All P lent
-sorted_all P ss ts all sorted lent e p f h k = subst (λ (xs : List Side). All P xs) (sym f) (All-permutation P all sorted p (subst (λ (xs : List Side). All P xs) (sym e) (All-append P ss ts h k)))
-
-pub joined-requires-clause-directed : goal.joined-requires-clause-directed
-joined-requires-clause-directed c =
+pub merged-requires-clause-first_directed : goal.merged-requires-clause-first_directed
+merged-requires-clause-first_directed c =
     let ss = c.fixed_sides-of_fixed.result.items in
-    let ts = c.moving_sides-of_moving.result.items in
-    sorted_all HasDirection ss ts c.all_sides.result.items c.ordered-all.result.items c.as_slice-3.result.now
-    (made c.all_sides.result.items c.as_slice.result.now c.as_slice-2.result.now ss ts c.all_sides.ensures c.as_slice.ensures.value c.as_slice-2.ensures.value)
-    c.ordered-all.ensures.same c.as_slice-3.ensures.value
+    in_order HasDirection ss c.order.new.sides.items c.as_slice.result.now c.order.ensures.same c.as_slice.ensures.value
     (fixed_directed c.args.fixed.now c.args.moving.now ss c.requires.fixed c.fixed_sides-of_fixed.ensures.sides)
+
+pub merged-requires-clause-second_directed : goal.merged-requires-clause-second_directed
+merged-requires-clause-second_directed c =
+    let ts = c.moving_sides-of_moving.result.items in
+    in_order HasDirection ts c.order-2.new.sides.items c.as_slice-2.result.now c.order-2.ensures.same c.as_slice-2.ensures.value
     (moving_directed c.args.fixed.now c.args.moving.now ts c.requires.moving c.moving_sides-of_moving.ensures.sides)
 
 pub returns-clause-sum : goal.returns-clause-sum
@@ -45,19 +44,19 @@ returns-clause-sum c =
     let ms = c.args.moving.now in
     let ss = c.fixed_sides-of_fixed.result.items in
     let ts = c.moving_sides-of_moving.result.items in
-    let e = made c.all_sides.result.items c.as_slice.result.now c.as_slice-2.result.now ss ts c.all_sides.ensures c.as_slice.ensures.value c.as_slice-2.ensures.value in
-    let p = subst (λ (xs : List Side). IsPermutation xs c.ordered-all.result.items) e c.ordered-all.ensures.same in
+    let p = subst (λ (xs : List Side). IsPermutation ss xs) (sym c.as_slice.ensures.value) c.order.ensures.same in
+    let q = subst (λ (xs : List Side). IsPermutation ts xs) (sym c.as_slice-2.ensures.value) c.order-2.ensures.same in
+    let all = c.as_slice.result.now ++ c.as_slice-2.result.now in
     record {
-      all = c.ordered-all.result.items;
-      sum = sum_permuted fs ms (ss ++ ts) c.ordered-all.result.items p (sum_from fs ms ss ts c.fixed_sides-of_fixed.ensures.sides c.moving_sides-of_moving.ensures.sides);
-      joined = subst (λ (xs : List Side). AreJoined xs c.joined.result.items) c.as_slice-3.ensures.value c.joined.ensures.joined;
+      all = all;
+      sum = sum_permuted fs ms (ss ++ ts) all (IsPermutation-append ss c.as_slice.result.now ts c.as_slice-2.result.now p q) (sum_from fs ms ss ts c.fixed_sides-of_fixed.ensures.sides c.moving_sides-of_moving.ensures.sides);
+      joined = c.merged.ensures.joined;
     }
 
 pub returns-clause-small : goal.returns-clause-small
 returns-clause-small c =
-    let ss = c.fixed_sides-of_fixed.result.items in
-    let ts = c.moving_sides-of_moving.result.items in
-    let all = sorted_all IsSmall ss ts c.all_sides.result.items c.ordered-all.result.items c.as_slice-3.result.now
-    (made c.all_sides.result.items c.as_slice.result.now c.as_slice-2.result.now ss ts c.all_sides.ensures c.as_slice.ensures.value c.as_slice-2.ensures.value)
-    c.ordered-all.ensures.same c.as_slice-3.ensures.value c.fixed_sides-of_fixed.ensures.small c.moving_sides-of_moving.ensures.small in
-    All-weaker (Contains c.as_slice-3.result.now) IsSmall (λ s k. All-contains IsSmall c.as_slice-3.result.now s all k) c.joined.result.items c.joined.ensures.joined.among
+    let xs = c.as_slice.result.now in
+    let ys = c.as_slice-2.result.now in
+    let h = in_order IsSmall c.fixed_sides-of_fixed.result.items c.order.new.sides.items xs c.order.ensures.same c.as_slice.ensures.value c.fixed_sides-of_fixed.ensures.small in
+    let k = in_order IsSmall c.moving_sides-of_moving.result.items c.order-2.new.sides.items ys c.order-2.ensures.same c.as_slice-2.ensures.value c.moving_sides-of_moving.ensures.small in
+    All-weaker (Contains (xs ++ ys)) IsSmall (λ s m. All-contains IsSmall (xs ++ ys) s (All-append IsSmall xs ys h k) m) c.merged.result.items c.merged.ensures.joined.among
