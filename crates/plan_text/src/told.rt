@@ -1,5 +1,5 @@
 //! The code that a block's line tells.
-ghost use Rattle.std.specs.Prelude.{◌≡◌, ◌≤◌, ◌<◌, ◌↔◌, length, position, slice_get, option_map, Some, IsTrue, IfSome};
+ghost use Rattle.std.specs.Prelude.{◌≡◌, ◌<◌, ◌↔◌, length, position, slice_get, Some, IsTrue, IfSome};
 ghost use Rattle.std.specs.Str.{bytes_eq};
 ghost use Rattle.shape_exact.specs.Yards.{IsYard};
 ghost use Rattle.plan_text.specs.Rows.{entry};
