@@ -1,0 +1,6 @@
+pub mod Claims
+pub mod Cuts
+pub mod Forms
+pub mod Lines
+pub mod Spans
+pub mod Verdicts

@@ -1,0 +1,90 @@
+-- What a checker says of a log: that it is accepted, or the first reason why it is not.
+use Rattle.std.specs.Prelude.{◌≡◌, ℕ, ◌+◌, ◌<◌, ◌≤◌, List, [], ◌∷◌, ◌++◌, Option, Some, None, ◌⊎◌, length, slice_get, take, All}
+use Rattle.plan_rule.specs.declared.literal.Literal.{Literal}
+use Rattle.plan_rule.specs.Choices.{Choices}
+use Rattle.plan_rule.specs.Plans.{IsAnswer}
+use Rattle.plan_rule.specs.Pairs.{IsFirstPair}
+use Rattle.plan_rule.specs.Bounds.{IsFit, IsEnergy, Refutes}
+use Rattle.refutation_log.specs.declared.record.Record.{Record}
+use Rattle.refutation_log.specs.declared.record.Record.TheVariants.{Branch, Fit, Energy}
+use Rattle.refutation_log.specs.Logs.{cites_of}
+use Rattle.refutation_log.specs.Steps.{IsAccepted, IsCovered, IsStepAt, result_of}
+use Rattle.log_checker.specs.declared.verdict.Refused.{Refused}
+use Rattle.log_checker.specs.declared.verdict.Refused.TheVariants.{PlanNotFeasible, BadCite, Uncovered, BoundLow, NotEmpty, BadForm}
+use Rattle.log_checker.specs.declared.verdict.Verdict.{Verdict}
+use Rattle.log_checker.specs.declared.verdict.Verdict.TheVariants as verdict
+use Rattle.log_checker.specs.Forms.{CitesBelow, HasForm}
+
+-- the first element of a list that has a property
+pub record IsFirst {X : Type 0} (P : X → Type 0) (xs : List X) (x : X) : Type 0 where
+  pub before : List X
+  pub after : List X
+  pub parts : xs ≡ before ++ x ∷ after
+  pub none_before : All (λ y. P y → ⊥) before
+  pub here : P x
+
+-- the first code of a branch that nothing covers
+pub record IsFirstUncovered (c : Choices) (t : Option (List ℕ)) (earlier : List Record) (b lo hi : ℕ) (side : List Literal) (cites : List ℕ) (code : ℕ) : Type 0 where
+  pub from : lo ≤ code
+  pub below : code < hi
+  pub before : (k : ℕ) → lo ≤ k → k < code → IsCovered c t earlier side cites b k
+  pub here : IsCovered c t earlier side cites b code → ⊥
+
+-- the code is the first of the record's codes that nothing covers
+abbrev pub LeavesCode : Choices → Option (List ℕ) → List Record → Record → ℕ → Type 0
+LeavesCode c t earlier (Branch b lo hi side cites) code = IsFirstUncovered c t earlier b lo hi side cites code
+LeavesCode c t earlier (Fit side) code = ⊥
+LeavesCode c t earlier (Energy from to side) code = ⊥
+
+-- the number is the record's bound, and does not refute its side
+abbrev pub HasLowBound : Choices → Option (List ℕ) → Record → ℕ → Type 0
+HasLowBound c t (Branch b lo hi side cites) n = ⊥
+HasLowBound c t (Fit side) n = IsFit c side (Some n) × (Refutes c t side (Some n) → ⊥)
+HasLowBound c t (Energy from to side) n = IsEnergy c from to side (Some n) × (Refutes c t side (Some n) → ⊥)
+
+-- why a record is no step after the earlier ones: first its form, then its citations, then what it should show
+abbrev pub IsFault : Choices → Option (List ℕ) → List Record → Record → Refused → Type 0
+IsFault c t earlier r (PlanNotFeasible a b) = ⊥
+IsFault c t earlier r (BadCite step cite) =
+    (step ≡ length earlier) × HasForm c r × IsFirst (λ k. step ≤ k) (cites_of r) cite
+IsFault c t earlier r (Uncovered step code) =
+    (step ≡ length earlier) × HasForm c r × CitesBelow step r × LeavesCode c t earlier r code
+IsFault c t earlier r (BoundLow step bound) = (step ≡ length earlier) × HasForm c r × HasLowBound c t r bound
+IsFault c t earlier r NotEmpty = ⊥
+IsFault c t earlier r (BadForm step) = (step ≡ length earlier) × (HasForm c r → ⊥)
+
+-- the plan's first pair of blocks that clash
+abbrev pub HasClash : Choices → Option (List ℕ) → ℕ → ℕ → Type 0
+HasClash c None a b = ⊥
+HasClash c (Some p) a b = IsFirstPair c p a b
+
+-- the records before this number are steps
+abbrev pub AreStepsBefore : Choices → Option (List ℕ) → List Record → ℕ → Type 0
+AreStepsBefore c t log n = (i : ℕ) → i < n → IsStepAt c t log i
+
+-- some record is the last one, and refutes every plan
+abbrev pub EndsEmpty : Choices → List Record → Type 0
+EndsEmpty c log = (i : ℕ) × (r : Record) × (i + 1 ≡ length log) × (slice_get log i ≡ Some r) × (result_of c r ≡ [])
+
+-- the fault of the first record that is no step
+pub record IsFirstFault (c : Choices) (t : Option (List ℕ)) (log : List Record) (refused : Refused) : Type 0 where
+  pub answer : IsAnswer c t
+  pub number : ℕ
+  pub entry : Record
+  pub entry_is : slice_get log number ≡ Some entry
+  pub steps : AreStepsBefore c t log number
+  pub fault : IsFault c t (take number log) entry refused
+
+-- the first reason to refuse a log: a clash in the plan, then the first record that is no step, then what is left at the end
+abbrev pub IsRefusal : Choices → Option (List ℕ) → List Record → Refused → Type 0
+IsRefusal c t log (PlanNotFeasible a b) = HasClash c t a b
+IsRefusal c t log NotEmpty = IsAnswer c t × AreStepsBefore c t log (length log) × (EndsEmpty c log → ⊥)
+IsRefusal c t log (BadCite step cite) = IsFirstFault c t log (BadCite step cite)
+IsRefusal c t log (Uncovered step code) = IsFirstFault c t log (Uncovered step code)
+IsRefusal c t log (BoundLow step bound) = IsFirstFault c t log (BoundLow step bound)
+IsRefusal c t log (BadForm step) = IsFirstFault c t log (BadForm step)
+
+-- accepted, or refused for its first reason
+abbrev pub IsVerdict : Choices → Option (List ℕ) → List Record → Verdict → Type 0
+IsVerdict c t log verdict.Accepted = IsAccepted c t log
+IsVerdict c t log (verdict.Refused refused) = IsRefusal c t log refused

@@ -1,0 +1,11 @@
+//! The checker of logs: whether a log shows that a plan is the best, or that no plan is feasible.
+//!
+//! It shares no code with a search. It walks the codes of each record and computes every bound for itself.
+#![tactic(auto)]
+
+mod claim;
+mod cut;
+mod span;
+mod verdict;
+
+pub use verdict::{Refused, Verdict};
