@@ -1,5 +1,5 @@
 -- What a checker says of a log: that it is accepted, or the first reason why it is not.
-use Rattle.std.specs.Prelude.{◌≡◌, ℕ, ◌+◌, ◌<◌, ◌≤◌, List, [], ◌∷◌, ◌++◌, Option, Some, None, ◌⊎◌, length, slice_get, take, All}
+use Rattle.std.specs.Prelude.{◌≡◌, ℕ, ◌+◌, ◌<◌, ◌≤◌, List, [], Option, Some, None, ◌⊎◌, length, slice_get, take}
 use Rattle.plan_rule.specs.declared.literal.Literal.{Literal}
 use Rattle.plan_rule.specs.Choices.{Choices}
 use Rattle.plan_rule.specs.Plans.{IsAnswer}
@@ -17,10 +17,9 @@ use Rattle.log_checker.specs.Forms.{CitesBelow, HasForm}
 
 -- the first element of a list that has a property
 pub record IsFirst {X : Type 0} (P : X → Type 0) (xs : List X) (x : X) : Type 0 where
-  pub before : List X
-  pub after : List X
-  pub parts : xs ≡ before ++ x ∷ after
-  pub none_before : All (λ y. P y → ⊥) before
+  pub place : ℕ
+  pub at : slice_get xs place ≡ Some x
+  pub before : (k : ℕ) (y : X) → k < place → slice_get xs k ≡ Some y → P y → ⊥
   pub here : P x
 
 -- the first code of a branch that nothing covers
@@ -68,21 +67,20 @@ EndsEmpty c log = (i : ℕ) × (r : Record) × (i + 1 ≡ length log) × (slice_
 
 -- the fault of the first record that is no step
 pub record IsFirstFault (c : Choices) (t : Option (List ℕ)) (log : List Record) (refused : Refused) : Type 0 where
-  pub answer : IsAnswer c t
   pub number : ℕ
   pub entry : Record
-  pub entry_is : slice_get log number ≡ Some entry
-  pub steps : AreStepsBefore c t log number
-  pub fault : IsFault c t (take number log) entry refused
+  pub at : slice_get log number ≡ Some entry
+  pub before : AreStepsBefore c t log number
+  pub here : IsFault c t (take number log) entry refused
 
 -- the first reason to refuse a log: a clash in the plan, then the first record that is no step, then what is left at the end
 abbrev pub IsRefusal : Choices → Option (List ℕ) → List Record → Refused → Type 0
 IsRefusal c t log (PlanNotFeasible a b) = HasClash c t a b
 IsRefusal c t log NotEmpty = IsAnswer c t × AreStepsBefore c t log (length log) × (EndsEmpty c log → ⊥)
-IsRefusal c t log (BadCite step cite) = IsFirstFault c t log (BadCite step cite)
-IsRefusal c t log (Uncovered step code) = IsFirstFault c t log (Uncovered step code)
-IsRefusal c t log (BoundLow step bound) = IsFirstFault c t log (BoundLow step bound)
-IsRefusal c t log (BadForm step) = IsFirstFault c t log (BadForm step)
+IsRefusal c t log (BadCite step cite) = IsAnswer c t × IsFirstFault c t log (BadCite step cite)
+IsRefusal c t log (Uncovered step code) = IsAnswer c t × IsFirstFault c t log (Uncovered step code)
+IsRefusal c t log (BoundLow step bound) = IsAnswer c t × IsFirstFault c t log (BoundLow step bound)
+IsRefusal c t log (BadForm step) = IsAnswer c t × IsFirstFault c t log (BadForm step)
 
 -- accepted, or refused for its first reason
 abbrev pub IsVerdict : Choices → Option (List ℕ) → List Record → Verdict → Type 0

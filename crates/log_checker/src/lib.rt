@@ -5,6 +5,7 @@
 
 mod claim;
 mod cut;
+mod form;
 mod span;
 mod verdict;
 
