@@ -1,5 +1,5 @@
 -- The codes of a block that the base refutes beside a side.
-use Rattle.std.specs.Prelude.{◌≡◌, ℕ, ◌<◌, ◌≤◌, List, Option, ◌⊎◌, ◌↔◌}
+use Rattle.std.specs.Prelude.{◌≡◌, ℕ, ◌+◌, ◌<◌, ◌≤◌, List, Option, Some, None, ◌⊎◌, ◌↔◌}
 use Rattle.plan_rule.specs.declared.literal.Literal.{Literal}
 use Rattle.plan_rule.specs.Choices.{Choices, IsCode}
 use Rattle.plan_rule.specs.Boxes.{exact, with_literal}
@@ -21,3 +21,9 @@ Takes (Above limit ties) cost code = (limit < cost) ⊎ ((cost ≡ limit) × (ti
 -- the codes of the block that a cut takes are those that the base refutes
 abbrev pub IsCut : Choices → Option (List ℕ) → List Literal → ℕ → Cut → Type 0
 IsCut c t side b cut = (code : ℕ) → IsCode c b code → Takes cut (c.cost b code) code ↔ IsRefuted c t side b code
+
+-- the base of the side with a code of the block is the number and the code's own cost; it is Never where there is none
+abbrev pub IsRest : Choices → List Literal → ℕ → Option ℕ → Type 0
+IsRest c side b None = (code : ℕ) → IsCode c b code → IsBase c (with_literal side (exact b code)) None
+IsRest c side b (Some rest) =
+    (code : ℕ) → IsCode c b code → IsBase c (with_literal side (exact b code)) (Some (rest + c.cost b code))

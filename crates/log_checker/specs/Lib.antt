@@ -3,4 +3,5 @@ pub mod Cuts
 pub mod Forms
 pub mod Lines
 pub mod Spans
+pub mod Ties
 pub mod Verdicts

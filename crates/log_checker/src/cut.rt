@@ -1,12 +1,94 @@
 //! Which codes of a block the base refutes beside a side.
+ghost use Rattle.std.specs.Prelude.{◌≡◌, ◌↔◌, ◌≤◌, ◌<◌, ◌-◌, ◌+◌, ◌*◌, true, ℕ, IsTrue, Some, slice_get, length};
+ghost use Rattle.shape_exact.specs.Yards.{IsYard};
+ghost use Rattle.shape_exact.specs.declared.block.Block.{Block};
+ghost use Rattle.code_table.specs.declared.placement.Placement.{Placement};
+ghost use Rattle.code_table.specs.Placements.{placements};
+ghost use Rattle.plan_rule.specs.Boxes.{IsBox, LeavesFree};
+ghost use Rattle.plan_rule.specs.Choices.{IsCode, blocks};
+ghost use Rattle.plan_rule.specs.Yards.{choices};
+ghost use Rattle.log_checker.specs.Claims.{IsClaim, plan_of};
+ghost use Rattle.log_checker.specs.Cuts.{IsCut, Takes};
+
+use crate::claim::Claim;
+use crate::rest::rest_of;
+use crate::ties::first_tie;
+use code_table::Codes;
+use plan_rule::PlanBox;
 
 /// The codes of a block that the base refutes, by their own cost.
 #[derive(Clone, Copy, PartialEq, Eq, Debug)]
 pub(crate) enum Cut {
-    /// Another block has no code, so the base is Never.
+    /// Another block has no code, so the base is Never; or the other blocks alone cost more than the plan.
     Every,
     /// No plan is claimed, and the base is a number.
     Nothing,
-    /// The codes that cost more than the first number, and those that cost as much, from the code on that is the second.
+    /// The codes that cost more than the first number, and those that cost as much from the code on that is the second.
     Above(u32, u32),
+}
+
+/// The least that work on a block may cost that begins on a day: where no day is closed.
+fn least_from(codes: &Codes, block: u8, start: u16) -> u32
+    requires { block < length codes.now.blocks }
+    ensures value { (b : Block) → slice_get codes.now.blocks block ≡ Some b
+        → result ≡ b.weight * (start + b.duration - 1 - b.due) }
+    ensures limits { IsYard codes.now }
+{
+    let blocks = codes.yard().blocks();
+    let block = &blocks[usize::from(block)];
+    let end = u32::from(start) + u32::from(block.duration) - 1;
+    u32::from(block.weight) * end.saturating_sub(u32::from(block.due))
+}
+
+impl Cut {
+    /// Whether the cut takes a code of this cost.
+    pub(crate) fn takes(self, cost: u32, code: u32) -> bool
+        ensures { IsTrue result ↔ Takes self cost code }
+    {
+        match self {
+            Cut::Every => true,
+            Cut::Nothing => false,
+            Cut::Above(limit, tie) => limit < cost || limit == cost && tie <= code,
+        }
+    }
+
+    /// Whether the start of this code alone shows that the cut takes it and each later one: none ends sooner than its
+    /// start allows.
+    pub(crate) fn takes_onward(self, codes: &Codes, block: u8, code: u32, start: u16) -> bool
+        requires block { block < blocks (choices codes.now) }
+        requires code { IsCode (choices codes.now) block code }
+        requires start { (p : Placement) → slice_get (placements codes.now block) code ≡ Some p → p.start ≡ start }
+        ensures { result ≡ true → (k : ℕ) → code ≤ k → IsCode (choices codes.now) block k
+            → Takes self ((choices codes.now).cost block k) k }
+    {
+        codes.codes_ascend(block);
+        match self {
+            Cut::Every => true,
+            Cut::Nothing => false,
+            Cut::Above(limit, _) => limit < least_from(codes, block, start),
+        }
+    }
+}
+
+/// Which codes of the block the base refutes beside the side, against the claim.
+pub(crate) fn cut_of(codes: &Codes, claim: Option<Claim<'_>>, side: &PlanBox, block: u8) -> Cut
+    requires claim { IsClaim (choices codes.now) claim }
+    requires side { IsBox (choices codes.now) side.now }
+    requires block { block < blocks (choices codes.now) }
+    requires free { LeavesFree side.now block }
+    ensures { IsCut (choices codes.now) (plan_of claim.entry) side.now block result }
+{
+    let Some(rest) = rest_of(codes, side, block) else {
+        return Cut::Every;
+    };
+    let Some(claim) = claim else {
+        return Cut::Nothing;
+    };
+    if claim.total < rest {
+        return Cut::Every;
+    }
+    Cut::Above(
+        claim.total - rest,
+        first_tie(codes, claim.plan, side, block),
+    )
 }

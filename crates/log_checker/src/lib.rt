@@ -6,7 +6,9 @@
 mod claim;
 mod cut;
 mod form;
+mod rest;
 mod span;
+mod ties;
 mod verdict;
 
 pub use verdict::{Refused, Verdict};
