@@ -1,5 +1,7 @@
 pub mod BesideLaws
 pub mod CutLaws
+pub mod FixedLaws
+pub mod NearLaws
 pub mod OnwardLaws
 pub mod RestLaws
 pub mod StepLaws

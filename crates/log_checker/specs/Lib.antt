@@ -1,5 +1,6 @@
 pub mod Claims
 pub mod Cuts
+pub mod FixedBlocks
 pub mod Forms
 pub mod Lines
 pub mod Spans

@@ -5,7 +5,9 @@
 
 mod claim;
 mod cut;
+mod fixed;
 mod form;
+mod near;
 mod rest;
 mod span;
 mod ties;
