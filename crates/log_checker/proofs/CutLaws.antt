@@ -1,8 +1,7 @@
 -- Which codes of a block the base refutes beside a side.
-use Rattle.std.proofs.Common.{◌≡◌, ℕ, ◌+◌, ◌-◌, ◌<◌, ◌≤◌, List, Option, Some, None, refl, sym, ap, ◌∙◌, subst, inl, inr, arith}
-use Rattle.std.proofs.lemmas.Bool.{cases_lt}
+use Rattle.std.proofs.Common.{◌≡◌, ℕ, ◌+◌, ◌<◌, List, Option, Some, None, subst, inl, inr, arith}
 use Rattle.plan_rule.specs.declared.literal.Literal.{Literal}
-use Rattle.plan_rule.specs.Choices.{Choices, IsCode, blocks}
+use Rattle.plan_rule.specs.Choices.{Choices, blocks}
 use Rattle.plan_rule.specs.Plans.{total}
 use Rattle.plan_rule.specs.Boxes.{exact, with_literal}
 use Rattle.plan_rule.specs.Bounds.{IsBase, MayTake, Refutes}

@@ -1,5 +1,5 @@
 -- No code with a later start costs less than its start allows.
-use Rattle.std.proofs.Common.{◌≡◌, ℕ, zero, suc, ◌+◌, ◌-◌, ◌*◌, ◌<◌, ◌≤◌, List, Bool, true, false, Some, refl, sym, ap, ◌∙◌, subst, inl, inr, arith}
+use Rattle.std.proofs.Common.{◌≡◌, ℕ, zero, suc, ◌+◌, ◌-◌, ◌*◌, ◌<◌, ◌≤◌, List, Bool, true, false, Some, refl, sym, ap, ◌∙◌, inl, inr, arith}
 use Rattle.std.specs.Prelude.{slice_get, nat_le, not, ◌&&◌}
 use Rattle.std.proofs.lemmas.Bool.{cases_lt, lt-leb, true≢false}
 use Rattle.std.proofs.lemmas.Nat.{mul-le}
@@ -12,7 +12,7 @@ use Rattle.plate_calendar.specs.Calendars.{open_days, end_of}
 use Rattle.plate_calendar.proofs.DayLaws.{one_if, count-sum, end_law}
 use Rattle.code_table.specs.declared.placement.Placement.{Placement}
 use Rattle.code_table.specs.Orders.{AreAscending, ComesBefore}
-use Rattle.code_table.specs.Placements.{placements, own_cost, cost_of}
+use Rattle.code_table.specs.Placements.{placements, cost_of}
 use Rattle.plan_rule.specs.Choices.{IsCode}
 use Rattle.plan_rule.specs.Yards.{choices}
 use Rattle.plan_rule.proofs.CountLaws.{cost_is}

@@ -6,12 +6,12 @@ use Rattle.shape_exact.specs.Yards.{PlainYard}
 use Rattle.code_table.specs.Costs.{IsAtMostEachCost, IsCostOfSome}
 use Rattle.code_table.specs.Placements.{placements, own_cost}
 use Rattle.plan_rule.specs.declared.literal.Literal.{Literal}
-use Rattle.plan_rule.specs.Choices.{Choices, IsCode, blocks, count}
+use Rattle.plan_rule.specs.Choices.{Choices, IsCode, blocks}
 use Rattle.plan_rule.specs.Boxes.{IsBox, IsLiteral, Fixes, fixed_code, exact, with_literal}
 use Rattle.plan_rule.specs.Bounds.{IsLeastOf, IsSumOfLeast, IsBase, MayTake}
 use Rattle.plan_rule.specs.Yards.{choices}
 use Rattle.plan_rule.proofs.BoundLaws.{fixed-all}
-use Rattle.plan_rule.proofs.CountLaws.{block_exists, code_exists, count-length, cost_is}
+use Rattle.plan_rule.proofs.CountLaws.{block_exists, count-length, cost_is}
 use Rattle.log_checker.proofs.BesideLaws.{fixed_other, fixed_same}
 
 -- the code of a fixed block exists

@@ -54,6 +54,7 @@ impl Cut {
 
     /// Whether the start of this code alone shows that the cut takes it and each later one: none ends sooner than its
     /// start allows.
+    #[tactic(auto, using(plan_rule::proofs::CountLaws::counts))]
     pub(crate) fn takes_onward(self, codes: &Codes, block: u8, code: u32, start: u16) -> bool
         requires block { block < blocks (choices codes.now) }
         requires code { IsCode (choices codes.now) block code }

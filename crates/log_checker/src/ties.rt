@@ -50,6 +50,7 @@ fn is_behind_from(plan: &Plan, side: &PlanBox, apart: u8) -> bool
 }
 
 /// The first code of the block with which the side is behind the plan; past the last code, where it is with none.
+#[tactic(auto, using(plan_rule::proofs::CountLaws::counts))]
 pub(crate) fn first_tie(codes: &Codes, plan: &Plan, side: &PlanBox, block: u8) -> u32
     requires plan { IsPlan (choices codes.now) plan.now }
     requires side { IsBox (choices codes.now) side.now }

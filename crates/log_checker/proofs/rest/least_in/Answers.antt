@@ -1,19 +1,13 @@
-use Rattle.std.proofs.Common.{sym, ◌∙◌}
+use Rattle.std.proofs.Common.{sym}
 use Rattle.plan_rule.specs.Yards.{choices}
-use Rattle.plan_rule.proofs.CountLaws.{block_exists, code_exists}
+use Rattle.plan_rule.proofs.CountLaws.{code_exists}
 use Rattle.log_checker.proofs.RestLaws.{fixed_exists, least_fixed, least_free}
 use Rattle.log_checker.proofs.rest.least_in.Goals as goal
-
-pub own_cost-requires-clause-block : goal.own_cost-requires-clause-block
-own_cost-requires-clause-block c = block_exists c.args.codes.now c.args.block c.requires.block
 
 pub own_cost-requires-clause-code : goal.own_cost-requires-clause-code
 own_cost-requires-clause-code c =
     code_exists c.args.codes.now c.args.block c.in-Some.code
     (fixed_exists (choices c.args.codes.now) c.args.side.now c.args.block c.in-Some.code c.requires.side (sym c.in-Some.ensures))
-
-pub least_cost-requires : goal.least_cost-requires
-least_cost-requires c = block_exists c.args.codes.now c.args.block c.requires.block
 
 pub returns-in-Some-clause-least : goal.returns-in-Some-clause-least
 returns-in-Some-clause-least c =

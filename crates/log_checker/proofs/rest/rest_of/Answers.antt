@@ -1,4 +1,4 @@
-use Rattle.std.proofs.Common.{◌≡◌, ◌≢◌, ◌<◌, sym, subst, arith}
+use Rattle.std.proofs.Common.{◌<◌, sym, subst, arith}
 use Rattle.plan_rule.specs.Choices.{blocks}
 use Rattle.plan_rule.specs.Yards.{choices}
 use Rattle.log_checker.specs.Cuts.{IsRest}

@@ -1,4 +1,4 @@
-use Rattle.std.proofs.Common.{◌≡◌, ◌+◌, ◌<◌, ◌≤◌, get_or, sym, ap, subst, ◌∙◌, arith}
+use Rattle.std.proofs.Common.{◌≡◌, ◌+◌, ◌<◌, get_or, sym, ap, subst, ◌∙◌, arith}
 use Rattle.std.proofs.lemmas.Bool.{true≢false}
 use Rattle.plan_rule.specs.Plans.{code_of}
 use Rattle.plan_rule.specs.Yards.{choices}
@@ -6,9 +6,6 @@ use Rattle.plan_rule.proofs.CountLaws.{block_exists, count-length}
 use Rattle.log_checker.specs.Ties.{IsFirstTie}
 use Rattle.log_checker.proofs.TieLaws.{tie_each, tie_none, tie_own, tie_next}
 use Rattle.log_checker.proofs.ties.first_tie.Goals as goal
-
-pub count-count-requires : goal.count-count-requires
-count-count-requires c = block_exists c.args.codes.now c.args.block c.requires.block
 
 pub returns-then-behind : goal.returns-then-behind
 returns-then-behind c =

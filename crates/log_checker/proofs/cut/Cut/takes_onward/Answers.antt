@@ -1,16 +1,9 @@
-use Rattle.std.proofs.Common.{◌≡◌, ◌<◌, ◌≤◌, true, sym, subst, inl, arith}
+use Rattle.std.proofs.Common.{◌<◌, ◌≤◌, sym, subst, inl, arith}
 use Rattle.std.proofs.lemmas.Bool.{ltb-true}
 use Rattle.plan_rule.specs.Yards.{choices}
-use Rattle.plan_rule.proofs.CountLaws.{block_exists}
 use Rattle.log_checker.specs.Cuts.{Takes}
 use Rattle.log_checker.proofs.OnwardLaws.{onward_cost}
 use Rattle.log_checker.proofs.cut.Cut.takes_onward.Goals as goal
-
-pub codes_ascend-requires : goal.codes_ascend-requires
-codes_ascend-requires c = block_exists c.args.codes.now c.args.block c.requires.block
-
-pub least_from-requires : goal.least_from-requires
-least_from-requires c = block_exists c.args.codes.now c.args.block c.requires.block
 
 pub returns-in-Above : goal.returns-in-Above
 returns-in-Above c t k le is =
