@@ -1,9 +1,15 @@
 pub mod BesideLaws
 pub mod CutLaws
+pub mod FitExists
+pub mod FitLaws
 pub mod FixedLaws
+pub mod FloorLaws
+pub mod FreeLaws
+pub mod LeastLaws
 pub mod NearLaws
 pub mod OnwardLaws
 pub mod RestLaws
 pub mod StepLaws
 pub mod TieLaws
 pub mod VerdictLaws
+pub mod WindowLaws

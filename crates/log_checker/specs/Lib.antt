@@ -2,7 +2,9 @@ pub mod Claims
 pub mod Cuts
 pub mod FixedBlocks
 pub mod Forms
+pub mod Leasts
 pub mod Lines
 pub mod Spans
 pub mod Ties
 pub mod Verdicts
+pub mod Windows

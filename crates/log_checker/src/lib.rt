@@ -3,14 +3,20 @@
 //! It shares no code with a search. It walks the codes of each record and computes every bound for itself.
 #![tactic(auto)]
 
+mod base;
 mod claim;
 mod cut;
+mod energy;
+mod fit;
 mod fixed;
 mod form;
+mod free;
 mod near;
+mod refute;
 mod rest;
 mod span;
 mod ties;
 mod verdict;
+mod window;
 
 pub use verdict::{Refused, Verdict};

@@ -1,0 +1,143 @@
+-- The least cost of a block's codes, code by code.
+use Rattle.std.proofs.Common.{◌≡◌, ℕ, ◌+◌, ◌<◌, ◌≤◌, List, length, Option, Some, None, refl, sym, ap, ◌∙◌, subst, inl, inr, arith, true, false, add-one}
+use Rattle.std.specs.Prelude.{Bool, IfSome, IfNone, if◌then◌else◌, is_some, nat_le}
+use Rattle.std.proofs.lemmas.Bool.{cases_lt, leb-true, leb-false, ltb-true, ltb-false, le-leb, lt-ltb, true≢false}
+use Rattle.std.proofs.lemmas.Option.{none-some, same_Some}
+use Rattle.shape_exact.specs.Yards.{PlainYard}
+use Rattle.code_table.specs.Placements.{placements}
+use Rattle.code_table.specs.Costs.{IsAtMostEachCost, IsCostOfSome}
+use Rattle.plan_rule.specs.declared.literal.Literal.{Literal}
+use Rattle.plan_rule.specs.Choices.{Choices, blocks, count}
+use Rattle.plan_rule.specs.Boxes.{Fixes, fixed_code, exact, IsBox, IsLiteral}
+use Rattle.plan_rule.specs.Bounds.{IsLeastOf, IsSumOfLeast, MayFit, MayTake}
+use Rattle.plan_rule.specs.Yards.{choices}
+use Rattle.plan_rule.proofs.BoundLaws.{fixed-all}
+use Rattle.plan_rule.proofs.CountLaws.{block_exists, code_exists, count-length, cost_is}
+use Rattle.log_checker.specs.Leasts.{Below, IsLeastUpTo, is_better}
+
+-- a code to which a box fixes a block is one of the block's
+pub fixed_within : (c : Choices) (side : List Literal) (b d : ℕ) → IsBox c side → Fixes side b d → d < count c b
+fixed_within c side b d box fix =
+    let l : IsLiteral c (exact b d) = fixed-all (IsLiteral c) side b d box.each fix in
+    let within = l.codes in
+    omega arith
+
+-- it is the only one that a plan may have
+pub least_fixed : (c : Choices) (side : List Literal) (b d m : ℕ) → IsBox c side → Fixes side b d → m ≡ c.cost b d
+    → IsLeastOf (MayTake c side b) (c.cost b) (Some m)
+least_fixed c side b d m box fix is = (
+  (d, (fixed_within c side b d box fix, λ e f. same_Some d e (sym fix ∙ f)), sym is),
+  λ x may. let e : c.cost b x ≡ c.cost b d = ap (c.cost b) (may.1 d fix) in omega arith,
+)
+
+-- of a block that is not fixed a plan may have every code
+pub least_loose : (c : Choices) (side : List Literal) (b : ℕ) (o : Option ℕ) → fixed_code side b ≡ None
+    → IsLeastOf (λ code. code < count c b) (c.cost b) o → IsLeastOf (MayTake c side b) (c.cost b) o
+least_loose c side b None free h = λ x may. h x may.0
+least_loose c side b (Some m) free h =
+    let ((x, l, e), low) = h in ((x, (l, λ d fix. absurd (none-some d (sym free ∙ fix))), e), λ y may. low y may.0)
+
+-- the least cost of a block's codes
+pub least_of_codes : (yard : PlainYard) (b : ℕ) (o : Option ℕ) → b < blocks (choices yard) → IfNone o (length (placements yard b) ≡ 0)
+    → IfSome o (IsAtMostEachCost yard b) → IfSome o (IsCostOfSome yard b)
+    → IsLeastOf (λ code. code < count (choices yard) b) ((choices yard).cost b) o
+least_of_codes yard b None l none low some = λ x m. let n = count-length yard b (block_exists yard b l) in absurd (omega arith)
+least_of_codes yard b (Some m) l none low some =
+    let n = count-length yard b (block_exists yard b l) in
+    let (x, within, cost) = some in (
+      (x, omega arith, cost_is yard b x ∙ cost),
+      λ y k. let a = low y (omega arith) in let e = cost_is yard b y in omega arith,
+    )
+
+-- one block more
+pub sum_more : (May : ℕ → ℕ → Type 0) (cost : ℕ → ℕ → ℕ) (i s m : ℕ) → IsSumOfLeast May cost i s → IsLeastOf (May i) (cost i) (Some m)
+    → IsSumOfLeast May cost (i + 1) (s + m)
+sum_more May cost i s m h k = rw add-one (s, m, h, k, refl)
+
+-- a number below the next one is below this one, or is this one
+last_or : (P : ℕ → Type 0) (n x : ℕ) → x < n + 1 → (x < n → P x) → P n → P x
+last_or P n x l below last = elim (cases_lt x n) [ inl less ↦ below less | inr same ↦ subst P (let e : n ≡ x = omega arith in e) last ]
+
+-- a number with the property and a better value is the new least
+pub least_take : (P : ℕ → Type 0) (value : ℕ → ℕ) (limit n m : ℕ) (best : Option ℕ) → IsLeastUpTo (Below P n) value limit best → P n → m ≡ value n
+    → is_better m best limit ≡ true → IsLeastUpTo (Below P (n + 1)) value limit (Some m)
+least_take P value limit n m None h p e better =
+    let le : m ≤ limit = leb-true m limit better in (
+      ((n, (omega arith, p), sym e), λ x w. last_or (λ x. P x → m ≤ value x) n x w.0 (λ l q. let a = h x (l, q) in omega arith) (λ q. omega arith) w.1),
+      le,
+    )
+least_take P value limit n m (Some b) h p e better =
+    let less : m < b = ltb-true m b better in let le = h.1 in (
+      ((n, (omega arith, p), sym e), λ x w. last_or (λ x. P x → m ≤ value x) n x w.0 (λ l q. let a = h.0.1 x (l, q) in omega arith) (λ q. omega arith) w.1),
+      omega arith,
+    )
+
+-- a number that has not the property, or no better value, changes nothing
+pub least_keep : (P : ℕ → Type 0) (value : ℕ → ℕ) (limit n m : ℕ) (best : Option ℕ) → IsLeastUpTo (Below P n) value limit best → m ≡ value n
+    → (P n → is_better m best limit ≡ true → ⊥) → IsLeastUpTo (Below P (n + 1)) value limit best
+least_keep P value limit n m None h e worse = λ x w.
+    last_or (λ x. P x → limit < value x) n x w.0 (λ l q. h x (l, q))
+    (λ q. elim (cases_lt limit m) [ inl above ↦ omega arith | inr better ↦ absurd (worse q (le-leb m limit better)) ]) w.1
+least_keep P value limit n m (Some b) h e worse = (
+  (
+    (let (x, w, is) = h.0.0 in let l = w.0 in (x, (omega arith, w.1), is)),
+    λ x w. last_or (λ x. P x → b ≤ value x) n x w.0 (λ l q. h.0.1 x (l, q))
+        (λ q. elim (cases_lt m b) [ inl better ↦ absurd (worse q (lt-ltb m b better)) | inr above ↦ omega arith ]) w.1,
+  ),
+  h.1,
+)
+
+-- where no later number with the property has a better value, the least so far is the least
+pub least_done : (P : ℕ → Type 0) (value : ℕ → ℕ) (limit n floor : ℕ) (best : Option ℕ) → IsLeastUpTo (Below P n) value limit best
+    → ((x : ℕ) → n ≤ x → P x → floor ≤ value x) → is_better floor best limit ≡ false → IsLeastUpTo P value limit best
+least_done P value limit n floor None h later worse =
+    let above : limit < floor = leb-false floor limit worse in
+    λ x p. elim (cases_lt x n) [ inl l ↦ h x (l, p) | inr l ↦ let a = later x l p in omega arith ]
+least_done P value limit n floor (Some b) h later worse =
+    let above : b ≤ floor = ltb-false floor b worse in (
+      (
+        (let (x, w, is) = h.0.0 in (x, w.1, is)),
+        λ x p. elim (cases_lt x n) [ inl l ↦ h.0.1 x (l, p) | inr l ↦ let a = later x l p in omega arith ],
+      ),
+      h.1,
+    )
+
+-- and so it is where no number with the property is left
+pub least_all : (P : ℕ → Type 0) (value : ℕ → ℕ) (limit n : ℕ) (best : Option ℕ) → IsLeastUpTo (Below P n) value limit best
+    → ((x : ℕ) → P x → x < n) → IsLeastUpTo P value limit best
+least_all P value limit n None h all = λ x p. h x (all x p, p)
+least_all P value limit n (Some b) h all = (
+  ((let (x, w, is) = h.0.0 in (x, w.1, is)), λ x p. h.0.1 x (all x p, p)),
+  h.1,
+)
+
+-- the answer to which code a side fixes a block
+pub fixed_by : (side list : List Literal) (b : ℕ) (o p : Option ℕ) → list ≡ side → o ≡ fixed_code list b → o ≡ p → fixed_code side b ≡ p
+fixed_by side list b o p e f g = ap (λ side. fixed_code side b) (sym e) ∙ sym f ∙ g
+
+-- a code to which it fixes a block is a place in the list of placements
+pub fixed_place : (yard : PlainYard) (side : List Literal) (b d : ℕ) → IsBox (choices yard) side → b < blocks (choices yard) → Fixes side b d → d < length (placements yard b)
+fixed_place yard side b d box l fix = code_exists yard b d (l, fixed_within (choices yard) side b d box fix)
+
+-- an answer that is not some is none
+pub none_of : (o : Option ℕ) → is_some o ≡ false → o ≡ None
+none_of None e = refl
+none_of (Some d) e = absurd (true≢false e)
+
+-- the only code of a block that a side fixes fits
+fixed_fits : (c : Choices) (side : List Literal) (b d m : ℕ) → IsBox c side → Fixes side b d → m ≡ c.cost b d → IsLeastOf (MayFit c side b) (c.cost b) (Some m)
+fixed_fits c side b d m box fix is =
+    let ((x, may, e), low) = least_fixed c side b d m box fix is in
+    ((x, (may, λ free. absurd (none-some d (sym free ∙ fix))), e), λ y fits. low y fits.0)
+
+-- its cost, where it is at most the limit
+pub fits_fixed : (c : Choices) (side : List Literal) (b d m limit : ℕ) (o : Option ℕ) → IsBox c side → Fixes side b d → m ≡ c.cost b d
+    → o ≡ (if nat_le m limit then Some m else None) → IsLeastUpTo (MayFit c side b) (c.cost b) limit o
+fits_fixed c side b d m limit o box fix is e = subst (IsLeastUpTo (MayFit c side b) (c.cost b) limit) (sym e) (within (nat_le m limit) refl)
+  where
+    least : IsLeastOf (MayFit c side b) (c.cost b) (Some m)
+    least = fixed_fits c side b d m box fix is
+
+    within : (t : Bool) → nat_le m limit ≡ t → IsLeastUpTo (MayFit c side b) (c.cost b) limit (if t then Some m else None)
+    within true t = (least, leb-true m limit t)
+    within false t = λ x may. let a = leb-false m limit t in let l = least.1 x may in omega arith

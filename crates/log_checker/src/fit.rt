@@ -1,0 +1,77 @@
+//! The fit of a side.
+ghost use Rattle.std.specs.Prelude.{◌≡◌, ◌<◌, None, Option, MatchOption, Some, ℕ, if◌then◌else◌, nat_le};
+ghost use Rattle.plan_rule.specs.Choices.{blocks};
+ghost use Rattle.plan_rule.specs.Boxes.{IsBox};
+ghost use Rattle.plan_rule.specs.Bounds.{IsFit, MayFit, Refutes};
+ghost use Rattle.plan_rule.specs.Yards.{choices};
+ghost use Rattle.log_checker.specs.Claims.{IsClaim, plan_of};
+ghost use Rattle.log_checker.specs.Leasts.{IsFitUpTo, IsLeastUpTo};
+
+use crate::base::{base, fixed_code, own_cost};
+use crate::claim::Claim;
+use crate::free::least_free;
+use crate::refute::fault;
+use code_table::Codes;
+use plan_rule::{PlanBox, block_count};
+
+/// The cost, where it is at most the limit.
+fn up_to(cost: u32, limit: u32) -> Option<u32>
+    ensures { result ≡ if nat_le cost limit then Some cost else None }
+{
+    if cost <= limit { Some(cost) } else { None }
+}
+
+/// The least own cost of the block's codes that fit the side, where it is at most the limit.
+fn least_fit(codes: &Codes, side: &PlanBox, block: u8, limit: u32) -> Option<u32>
+    requires side { IsBox (choices codes.now) side.now }
+    requires block { block < blocks (choices codes.now) }
+    ensures { IsLeastUpTo (MayFit (choices codes.now) side.now block) ((choices codes.now).cost block) limit result }
+{
+    match fixed_code(side.literals(), block) {
+        Some(code) => up_to(codes.own_cost(block, code), limit),
+        None => least_free(codes, side, block, limit),
+    }
+}
+
+/// The fit of the side, where it is at most the limit; None where it is above, or Never. A block's least cost is not
+/// sought above what the limit leaves beside the costs found so far and the least own costs of the blocks to come.
+fn fit(codes: &Codes, side: &PlanBox, limit: u32) -> Option<u32>
+    requires { IsBox (choices codes.now) side.now }
+    ensures { IsFitUpTo (choices codes.now) side.now limit result }
+{
+    let mut rest = base(codes, side)?;
+    let mut sum = 0;
+    for block in 0..block_count(codes) {
+        rest -= own_cost(codes, side, block)?;
+        let left = limit.checked_sub(sum + rest)?;
+        sum += least_fit(codes, side, block, left)?;
+    }
+    Some(sum)
+}
+
+/// The greatest bound that does not refute a side for its total.
+fn greatest(claim: Option<Claim<'_>>) -> u32
+    ensures { MatchOption claim.entry (result ≡ 4294967295) (λ c. result ≡ c.total) }
+{
+    match claim {
+        Some(claim) => claim.total,
+        None => u32::MAX,
+    }
+}
+
+/// The fit of the side, where it does not refute the side; None where it does.
+pub(crate) fn fit_fault(codes: &Codes, claim: Option<Claim<'_>>, side: &PlanBox) -> Option<u32>
+    requires claim { IsClaim (choices codes.now) claim }
+    requires side { IsBox (choices codes.now) side.now }
+    ensures { MatchOption result
+        ((k : Option ℕ) × IsFit (choices codes.now) side.now k
+        × Refutes (choices codes.now) (plan_of claim.entry) side.now k)
+        (λ n. IsFit (choices codes.now) side.now (Some n)
+        × (Refutes (choices codes.now) (plan_of claim.entry) side.now (Some n) → ⊥)) }
+{
+    let _yard = codes.yard();
+    let Some(fit) = fit(codes, side, greatest(claim)) else {
+        return None;
+    };
+    fault(codes, claim, side, Some(fit))
+}

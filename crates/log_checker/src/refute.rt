@@ -1,0 +1,52 @@
+//! When a bound refutes a side.
+ghost use Rattle.std.specs.Prelude.{◌≡◌, ◌↔◌, IsTrue, MatchOption, Some};
+ghost use Rattle.plan_rule.specs.Boxes.{IsBox};
+ghost use Rattle.plan_rule.specs.Bounds.{Refutes};
+ghost use Rattle.plan_rule.specs.Yards.{choices};
+ghost use Rattle.log_checker.specs.Claims.{IsClaim, plan_of};
+
+use crate::claim::Claim;
+use code_table::Codes;
+use plan_rule::PlanBox;
+
+/// Whether a bound of the side, None for Never, shows that no feasible plan in it is before the claimed plan; or, where
+/// none is claimed, that no plan in it is feasible.
+pub(crate) fn refutes(
+    codes: &Codes,
+    claim: Option<Claim<'_>>,
+    side: &PlanBox,
+    bound: Option<u32>,
+) -> bool
+    requires claim { IsClaim (choices codes.now) claim }
+    requires side { IsBox (choices codes.now) side.now }
+    ensures { IsTrue result ↔ Refutes (choices codes.now) (plan_of claim.entry) side.now bound }
+{
+    let Some(bound) = bound else {
+        return true;
+    };
+    let Some(claim) = claim else {
+        return false;
+    };
+    if claim.total < bound {
+        return true;
+    }
+    bound == claim.total && side.behind(claim.plan)
+}
+
+/// None where the bound refutes the side, and else the bound.
+pub(crate) fn fault(
+    codes: &Codes,
+    claim: Option<Claim<'_>>,
+    side: &PlanBox,
+    bound: Option<u32>,
+) -> Option<u32>
+    requires claim { IsClaim (choices codes.now) claim }
+    requires side { IsBox (choices codes.now) side.now }
+    ensures { MatchOption result (Refutes (choices codes.now) (plan_of claim.entry) side.now bound)
+        (λ n. (bound ≡ Some n) × (Refutes (choices codes.now) (plan_of claim.entry) side.now (Some n) → ⊥)) }
+{
+    if refutes(codes, claim, side, bound) {
+        return None;
+    }
+    bound
+}
