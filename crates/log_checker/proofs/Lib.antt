@@ -1,4 +1,5 @@
 pub mod BesideLaws
+pub mod CiteLaws
 pub mod CutLaws
 pub mod FitExists
 pub mod FitLaws
@@ -9,6 +10,7 @@ pub mod LeastLaws
 pub mod NearLaws
 pub mod OnwardLaws
 pub mod RestLaws
+pub mod SpanLaws
 pub mod StepLaws
 pub mod TieLaws
 pub mod VerdictLaws

@@ -4,6 +4,7 @@
 #![tactic(auto)]
 
 mod base;
+mod cited;
 mod claim;
 mod cut;
 mod energy;
