@@ -1,4 +1,5 @@
 pub mod BesideLaws
+pub mod BranchLaws
 pub mod CiteLaws
 pub mod CutLaws
 pub mod FitExists
@@ -14,4 +15,5 @@ pub mod SpanLaws
 pub mod StepLaws
 pub mod TieLaws
 pub mod VerdictLaws
+pub mod WalkLaws
 pub mod WindowLaws

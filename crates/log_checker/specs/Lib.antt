@@ -7,4 +7,5 @@ pub mod Lines
 pub mod Spans
 pub mod Ties
 pub mod Verdicts
+pub mod Walks
 pub mod Windows

@@ -4,6 +4,7 @@
 #![tactic(auto)]
 
 mod base;
+mod branch;
 mod cited;
 mod claim;
 mod cut;
@@ -18,6 +19,7 @@ mod rest;
 mod span;
 mod ties;
 mod verdict;
+mod walk;
 mod window;
 
 pub use verdict::{Refused, Verdict};

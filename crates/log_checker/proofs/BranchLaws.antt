@@ -1,0 +1,73 @@
+-- What covers a code of a branch: a fixed block that its placement meets, the cut, or a span.
+use Rattle.std.proofs.Common.{ℕ, ◌<◌, ◌≤◌, List, Option, Some, None, inl, inr, arith}
+use Rattle.std.specs.Prelude.{◌↔◌, MatchOption}
+use Rattle.shape_exact.specs.Yards.{PlainYard}
+use Rattle.code_table.specs.Placements.{placements}
+use Rattle.plan_rule.specs.declared.literal.Literal.{Literal}
+use Rattle.plan_rule.specs.Choices.{blocks, count, IsCode}
+use Rattle.plan_rule.specs.Yards.{choices}
+use Rattle.plan_rule.proofs.ClashLaws.{element}
+use Rattle.plan_rule.proofs.CountLaws.{code_exists}
+use Rattle.refutation_log.specs.declared.record.Record.{Record}
+use Rattle.refutation_log.specs.Steps.{IsCovered, IsRange}
+use Rattle.log_checker.specs.declared.cut.Cut.{Cut}
+use Rattle.log_checker.specs.declared.fixed.Fixed.{Fixed}
+use Rattle.log_checker.specs.declared.span.Span.{Span}
+use Rattle.log_checker.specs.Cuts.{IsCut}
+use Rattle.log_checker.specs.FixedBlocks.{AreFixed}
+use Rattle.log_checker.specs.Spans.{AreCited}
+use Rattle.log_checker.specs.Walks.{IsSettled, IsFirstWithout}
+use Rattle.log_checker.specs.Verdicts.{IsFirstUncovered}
+use Rattle.log_checker.proofs.FixedLaws.{met_or_clash}
+
+-- a code is settled exactly where it is covered
+settled_covered : (yard : PlainYard) (t : Option (List ℕ)) (earlier : List Record) (side : List Literal) (cites : List ℕ) (b : ℕ)
+    (cut : Cut) (fixed : List Fixed) (spans : List Span) → IsCut (choices yard) t side b cut → AreFixed yard side fixed
+    → AreCited (choices yard) earlier cites side b spans → (code : ℕ) → IsCode (choices yard) b code
+    → IsSettled yard b cut fixed spans code ↔ IsCovered (choices yard) t earlier side cites b code
+settled_covered yard t earlier side cites b cut fixed spans cuts are cited code is = (
+  λ h. elim h [
+    | inl met ↦ inl ((met_or_clash yard side fixed b code met.0 are met.1).0 met.2)
+    | inr other ↦ elim other [
+      | inl taken ↦ inr (inl ((cuts code is).0 taken))
+      | inr inside ↦ inr (inr ((cited code is).0 inside))
+    ]
+  ],
+  λ h. elim h [
+    | inl clash ↦
+        let (p, at) = element (placements yard b) code (code_exists yard b code is) in
+        inl (p, at, (met_or_clash yard side fixed b code p are at).1 clash)
+    | inr other ↦ elim other [
+      | inl refuted ↦ inr (inl ((cuts code is).1 refuted))
+      | inr cites ↦ inr (inr ((cited code is).1 cites))
+    ]
+  ],
+)
+
+-- the codes of a range exist
+pub range_exists : (yard : PlainYard) (b lo hi : ℕ) → IsRange (choices yard) b lo hi → hi ≤ count (choices yard) b
+range_exists yard b lo hi (inl (some, within)) = within
+range_exists yard b lo hi (inr (first, last, none)) = omega arith
+
+-- the first code that is not settled is the first that is not covered
+pub found_uncovered : (yard : PlainYard) (t : Option (List ℕ)) (earlier : List Record) (side : List Literal) (cites : List ℕ) (b lo hi : ℕ)
+    (cut : Cut) (fixed : List Fixed) (spans : List Span) (found : Option ℕ) → b < blocks (choices yard) → IsRange (choices yard) b lo hi
+    → IsCut (choices yard) t side b cut → AreFixed yard side fixed → AreCited (choices yard) earlier cites side b spans
+    → MatchOption found ((code : ℕ) → lo ≤ code → code < hi → IsSettled yard b cut fixed spans code)
+    (λ code. IsFirstWithout (IsSettled yard b cut fixed spans) lo hi code)
+    → MatchOption found ((code : ℕ) → lo ≤ code → code < hi → IsCovered (choices yard) t earlier side cites b code)
+    (λ code. IsFirstUncovered (choices yard) t earlier b lo hi side cites code)
+found_uncovered yard t earlier side cites b lo hi cut fixed spans None exists range cuts are cited h =
+    λ code low high.
+    let within = range_exists yard b lo hi range in
+    (settled_covered yard t earlier side cites b cut fixed spans cuts are cited code (exists, omega arith)).0 (h code low high)
+found_uncovered yard t earlier side cites b lo hi cut fixed spans (Some code) exists range cuts are cited h =
+    let within = range_exists yard b lo hi range in
+    let below = h.below in
+    record {
+      from = h.from;
+      below = h.below;
+      before = λ k low high.
+          (settled_covered yard t earlier side cites b cut fixed spans cuts are cited k (exists, omega arith)).0 (h.before k low high);
+      here = λ covered. h.here ((settled_covered yard t earlier side cites b cut fixed spans cuts are cited code (exists, omega arith)).1 covered);
+    }

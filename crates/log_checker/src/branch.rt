@@ -1,0 +1,59 @@
+//! Branches: whether each code of a range is covered.
+ghost use Rattle.std.specs.Prelude.{◌<◌, ◌≤◌, ℕ, All, IfOk, MatchOption, length};
+ghost use Rattle.plan_rule.specs.Choices.{blocks};
+ghost use Rattle.plan_rule.specs.Boxes.{IsBox, LeavesFree};
+ghost use Rattle.plan_rule.specs.Yards.{choices};
+ghost use Rattle.refutation_log.specs.Steps.{IsCovered, IsRange};
+ghost use Rattle.log_checker.specs.Claims.{IsClaim, plan_of};
+ghost use Rattle.log_checker.specs.Forms.{HasForm};
+ghost use Rattle.log_checker.specs.Verdicts.{IsFirstUncovered};
+
+use crate::cited::spans_of;
+use crate::claim::Claim;
+use crate::cut::cut_of;
+use crate::fixed::fixed_of;
+use crate::walk::first_uncovered;
+use code_table::Codes;
+use plan_rule::PlanBox;
+use refutation_log::{Cites, Record};
+use shape_exact::NoMemory;
+use std::alloc::Global;
+
+/// The first code of the range beside the side that nothing covers: it clashes with no code that the side fixes, the base
+/// does not refute the side with it, and no cited record's box covers the side with it. None where each code is covered.
+pub(crate) fn branch_fault(
+    alloc: Global,
+    codes: &Codes,
+    claim: Option<Claim<'_>>,
+    earlier: &[Record],
+    block: u8,
+    lo: u32,
+    hi: u32,
+    side: &PlanBox,
+    cites: &Cites,
+) -> Result<Option<u32>, NoMemory>
+    requires claim { IsClaim (choices codes.now) claim }
+    requires earlier { All (HasForm (choices codes.now)) earlier.now }
+    requires block { block < blocks (choices codes.now) }
+    requires side { IsBox (choices codes.now) side.now }
+    requires free { LeavesFree side.now block }
+    requires range { IsRange (choices codes.now) block lo hi }
+    requires cites { All (λ k. k < length earlier.now) cites.now }
+    ensures { IfOk result (λ found. MatchOption found
+        ((code : ℕ) → lo ≤ code → code < hi
+        → IsCovered (choices codes.now) (plan_of claim.entry) earlier.now side.now cites.now block code)
+        (λ code. IsFirstUncovered (choices codes.now) (plan_of claim.entry) earlier.now block lo hi side.now cites.now code)) }
+{
+    let cut = cut_of(codes, claim, side, block);
+    let spans = spans_of(alloc, codes, earlier, cites, side, block)?;
+    let fixed = fixed_of(codes, side);
+    Ok(first_uncovered(
+        codes,
+        block,
+        lo,
+        hi,
+        cut,
+        fixed.as_slice(),
+        spans.as_slice(),
+    ))
+}
