@@ -1,41 +1,19 @@
 -- The least cost of a block's codes, code by code.
-use Rattle.std.proofs.Common.{◌≡◌, ℕ, ◌+◌, ◌<◌, ◌≤◌, List, length, Option, Some, None, refl, sym, ap, ◌∙◌, subst, inl, inr, arith, true, false, add-one}
-use Rattle.std.specs.Prelude.{Bool, IfSome, IfNone, if◌then◌else◌, is_some, nat_le}
-use Rattle.std.proofs.lemmas.Bool.{cases_lt, leb-true, leb-false, ltb-true, ltb-false, le-leb, lt-ltb, true≢false}
-use Rattle.std.proofs.lemmas.Option.{none-some, same_Some}
+use Rattle.std.proofs.Common.{◌≡◌, ℕ, ◌+◌, ◌<◌, ◌≤◌, List, length, Option, Some, None, refl, sym, ◌∙◌, subst, inl, inr, arith, true, false, add-one}
+use Rattle.std.specs.Prelude.{Bool, IfSome, IfNone, if◌then◌else◌, nat_le}
+use Rattle.std.proofs.lemmas.Bool.{cases_lt, leb-true, leb-false, ltb-true, ltb-false, le-leb, lt-ltb}
+use Rattle.std.proofs.lemmas.Option.{none-some}
 use Rattle.shape_exact.specs.Yards.{PlainYard}
-use Rattle.code_table.specs.Placements.{placements}
+use Rattle.code_table.specs.Placements.{own_cost, placements}
 use Rattle.code_table.specs.Costs.{IsAtMostEachCost, IsCostOfSome}
 use Rattle.plan_rule.specs.declared.literal.Literal.{Literal}
-use Rattle.plan_rule.specs.Choices.{Choices, blocks, count}
-use Rattle.plan_rule.specs.Boxes.{Fixes, fixed_code, exact, IsBox, IsLiteral}
-use Rattle.plan_rule.specs.Bounds.{IsLeastOf, IsSumOfLeast, MayFit, MayTake}
+use Rattle.plan_rule.specs.Choices.{blocks, count}
+use Rattle.plan_rule.specs.Boxes.{Fixes, IsBox}
+use Rattle.plan_rule.specs.Bounds.{IsLeastOf, IsSumOfLeast, MayFit}
 use Rattle.plan_rule.specs.Yards.{choices}
-use Rattle.plan_rule.proofs.BoundLaws.{fixed-all}
-use Rattle.plan_rule.proofs.CountLaws.{block_exists, code_exists, count-length, cost_is}
-use Rattle.log_checker.specs.Leasts.{Below, IsLeastUpTo, is_better}
-
--- a code to which a box fixes a block is one of the block's
-pub fixed_within : (c : Choices) (side : List Literal) (b d : ℕ) → IsBox c side → Fixes side b d → d < count c b
-fixed_within c side b d box fix =
-    let l : IsLiteral c (exact b d) = fixed-all (IsLiteral c) side b d box.each fix in
-    let within = l.codes in
-    omega arith
-
--- it is the only one that a plan may have
-pub least_fixed : (c : Choices) (side : List Literal) (b d m : ℕ) → IsBox c side → Fixes side b d → m ≡ c.cost b d
-    → IsLeastOf (MayTake c side b) (c.cost b) (Some m)
-least_fixed c side b d m box fix is = (
-  (d, (fixed_within c side b d box fix, λ e f. same_Some d e (sym fix ∙ f)), sym is),
-  λ x may. let e : c.cost b x ≡ c.cost b d = ap (c.cost b) (may.1 d fix) in omega arith,
-)
-
--- of a block that is not fixed a plan may have every code
-pub least_loose : (c : Choices) (side : List Literal) (b : ℕ) (o : Option ℕ) → fixed_code side b ≡ None
-    → IsLeastOf (λ code. code < count c b) (c.cost b) o → IsLeastOf (MayTake c side b) (c.cost b) o
-least_loose c side b None free h = λ x may. h x may.0
-least_loose c side b (Some m) free h =
-    let ((x, l, e), low) = h in ((x, (l, λ d fix. absurd (none-some d (sym free ∙ fix))), e), λ y may. low y may.0)
+use Rattle.plan_rule.proofs.CountLaws.{block_exists, count-length, cost_is}
+use Rattle.log_checker.specs.Leasts.{Below, IsLeastFit, IsLeastUpTo, is_better}
+use Rattle.log_checker.proofs.RestLaws.{least_fixed}
 
 -- the least cost of a block's codes
 pub least_of_codes : (yard : PlainYard) (b : ℕ) (o : Option ℕ) → b < blocks (choices yard) → IfNone o (length (placements yard b) ≡ 0)
@@ -111,33 +89,27 @@ least_all P value limit n (Some b) h all = (
   h.1,
 )
 
--- the answer to which code a side fixes a block
-pub fixed_by : (side list : List Literal) (b : ℕ) (o p : Option ℕ) → list ≡ side → o ≡ fixed_code list b → o ≡ p → fixed_code side b ≡ p
-fixed_by side list b o p e f g = ap (λ side. fixed_code side b) (sym e) ∙ sym f ∙ g
-
--- a code to which it fixes a block is a place in the list of placements
-pub fixed_place : (yard : PlainYard) (side : List Literal) (b d : ℕ) → IsBox (choices yard) side → b < blocks (choices yard) → Fixes side b d → d < length (placements yard b)
-fixed_place yard side b d box l fix = code_exists yard b d (l, fixed_within (choices yard) side b d box fix)
-
--- an answer that is not some is none
-pub none_of : (o : Option ℕ) → is_some o ≡ false → o ≡ None
-none_of None e = refl
-none_of (Some d) e = absurd (true≢false e)
+-- the least of the numbers with a property is that of the numbers with the same one in other words
+pub least_same : (P Q : ℕ → Type 0) (value : ℕ → ℕ) (limit : ℕ) (o : Option ℕ) → ((x : ℕ) → P x → Q x) → ((x : ℕ) → Q x → P x)
+    → IsLeastUpTo P value limit o → IsLeastUpTo Q value limit o
+least_same P Q value limit None there back h = λ x q. h x (back x q)
+least_same P Q value limit (Some n) there back h = (((let (x, p, is) = h.0.0 in (x, there x p, is)), λ x q. h.0.1 x (back x q)), h.1)
 
 -- the only code of a block that a side fixes fits
-fixed_fits : (c : Choices) (side : List Literal) (b d m : ℕ) → IsBox c side → Fixes side b d → m ≡ c.cost b d → IsLeastOf (MayFit c side b) (c.cost b) (Some m)
-fixed_fits c side b d m box fix is =
-    let ((x, may, e), low) = least_fixed c side b d m box fix is in
+fixed_fits : (yard : PlainYard) (side : List Literal) (b d m : ℕ) → IsBox (choices yard) side → Fixes side b d → m ≡ own_cost yard b d
+    → IsLeastOf (MayFit (choices yard) side b) ((choices yard).cost b) (Some m)
+fixed_fits yard side b d m box fix is =
+    let ((x, may, e), low) = least_fixed yard side b d m box fix is in
     ((x, (may, λ free. absurd (none-some d (sym free ∙ fix))), e), λ y fits. low y fits.0)
 
 -- its cost, where it is at most the limit
-pub fits_fixed : (c : Choices) (side : List Literal) (b d m limit : ℕ) (o : Option ℕ) → IsBox c side → Fixes side b d → m ≡ c.cost b d
-    → o ≡ (if nat_le m limit then Some m else None) → IsLeastUpTo (MayFit c side b) (c.cost b) limit o
-fits_fixed c side b d m limit o box fix is e = subst (IsLeastUpTo (MayFit c side b) (c.cost b) limit) (sym e) (within (nat_le m limit) refl)
+pub fits_fixed : (yard : PlainYard) (side : List Literal) (b d m limit : ℕ) (o : Option ℕ) → IsBox (choices yard) side → Fixes side b d → m ≡ own_cost yard b d
+    → o ≡ (if nat_le m limit then Some m else None) → IsLeastFit (choices yard) side b limit o
+fits_fixed yard side b d m limit o box fix is e = subst (IsLeastFit (choices yard) side b limit) (sym e) (within (nat_le m limit) refl)
   where
-    least : IsLeastOf (MayFit c side b) (c.cost b) (Some m)
-    least = fixed_fits c side b d m box fix is
+    least : IsLeastOf (MayFit (choices yard) side b) ((choices yard).cost b) (Some m)
+    least = fixed_fits yard side b d m box fix is
 
-    within : (t : Bool) → nat_le m limit ≡ t → IsLeastUpTo (MayFit c side b) (c.cost b) limit (if t then Some m else None)
+    within : (t : Bool) → nat_le m limit ≡ t → IsLeastFit (choices yard) side b limit (if t then Some m else None)
     within true t = (least, leb-true m limit t)
     within false t = λ x may. let a = leb-false m limit t in let l = least.1 x may in omega arith

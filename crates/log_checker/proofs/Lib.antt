@@ -5,7 +5,6 @@ pub mod CutLaws
 pub mod FitExists
 pub mod FitLaws
 pub mod FixedLaws
-pub mod FloorLaws
 pub mod FreeLaws
 pub mod LeastLaws
 pub mod NearLaws

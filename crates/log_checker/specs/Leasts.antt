@@ -1,17 +1,14 @@
--- Leasts up to a limit, and what a side leaves to choose.
-use Rattle.std.specs.Prelude.{ℕ, ◌+◌, ◌<◌, ◌≤◌, Bool, List, Option, Some, None, ◌==◌, if◌then◌else◌, nat_le, nat_lt}
+-- Leasts up to a limit, and what the fixed blocks leave to choose.
+use Rattle.std.specs.Prelude.{◌≡◌, ℕ, ◌<◌, ◌≤◌, Bool, List, Option, Some, None, nat_le, nat_lt, slice_get}
+use Rattle.shape_exact.specs.Yards.{PlainYard}
+use Rattle.code_table.specs.declared.placement.Placement.{Placement}
+use Rattle.code_table.specs.Placements.{placements}
 use Rattle.plan_rule.specs.declared.literal.Literal.{Literal}
-use Rattle.plan_rule.specs.Choices.{Choices}
-use Rattle.plan_rule.specs.Boxes.{Fixes}
-use Rattle.plan_rule.specs.Bounds.{IsAtMost, IsFit, IsLeastOf}
-
--- the code of a literal of one code
-abbrev pub only_code : Literal → Option ℕ
-only_code l = if l.hi == l.lo + 1 then Some l.lo else None
-
--- the code clashes with a code that the side fixes
-abbrev pub IsBarred : Choices → List Literal → ℕ → ℕ → Type 0
-IsBarred c side b code = (a : ℕ) × (d : ℕ) × Fixes side a d × c.Clash a d b code
+use Rattle.plan_rule.specs.Choices.{Choices, count}
+use Rattle.plan_rule.specs.Bounds.{IsAtMost, IsFit, IsLeastOf, MayFit}
+use Rattle.plan_rule.specs.Yards.{choices}
+use Rattle.log_checker.specs.declared.fixed.Fixed.{Fixed}
+use Rattle.log_checker.specs.FixedBlocks.{MeetsOne}
 
 -- the number is below n, and has the property
 abbrev pub Below : (ℕ → Type 0) → ℕ → ℕ → Type 0
@@ -26,6 +23,24 @@ is_better cost (Some best) limit = nat_lt cost best
 abbrev pub IsLeastUpTo : (ℕ → Type 0) → (ℕ → ℕ) → ℕ → Option ℕ → Type 0
 IsLeastUpTo P value limit None = (x : ℕ) → P x → limit < value x
 IsLeastUpTo P value limit (Some n) = IsLeastOf P value (Some n) × (n ≤ limit)
+
+-- a code of the block at which it meets no fixed block
+abbrev pub IsClear : PlainYard → List Fixed → ℕ → ℕ → Type 0
+IsClear yard fixed b code =
+    (code < count (choices yard) b)
+    × ((p : Placement) → slice_get (placements yard b) code ≡ Some p → MeetsOne yard fixed b p → ⊥)
+
+-- the least cost, where it is at most the limit, of these codes
+abbrev pub IsLeastClear : PlainYard → List Fixed → ℕ → ℕ → Option ℕ → Type 0
+IsLeastClear yard fixed b limit o = IsLeastUpTo (IsClear yard fixed b) ((choices yard).cost b) limit o
+
+-- the same of the codes below n
+abbrev pub IsLeastClearBelow : PlainYard → List Fixed → ℕ → ℕ → ℕ → Option ℕ → Type 0
+IsLeastClearBelow yard fixed b n limit o = IsLeastUpTo (Below (IsClear yard fixed b) n) ((choices yard).cost b) limit o
+
+-- the least cost, where it is at most the limit, of the block's codes that fit the side
+abbrev pub IsLeastFit : Choices → List Literal → ℕ → ℕ → Option ℕ → Type 0
+IsLeastFit c side b limit o = IsLeastUpTo (MayFit c side b) (c.cost b) limit o
 
 -- the fit of the side, where it is at most the limit; none where it is above, or Never
 abbrev pub IsFitUpTo : Choices → List Literal → ℕ → Option ℕ → Type 0

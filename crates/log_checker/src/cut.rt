@@ -28,7 +28,7 @@ pub(crate) enum Cut {
 }
 
 /// The least that work on a block may cost that begins on a day: where no day is closed.
-fn least_from(codes: &Codes, block: u8, start: u16) -> u32
+pub(crate) fn least_from(codes: &Codes, block: u8, start: u16) -> u32
     requires { block < length codes.now.blocks }
     ensures value { (b : Block) → slice_get codes.now.blocks block ≡ Some b
         → result ≡ b.weight * (start + b.duration - 1 - b.due) }

@@ -7,9 +7,9 @@ ghost use Rattle.plan_rule.specs.Bounds.{IsEnergy, Refutes};
 ghost use Rattle.plan_rule.specs.Yards.{choices};
 ghost use Rattle.code_table.specs.Costs.{lesser};
 ghost use Rattle.log_checker.specs.Claims.{IsClaim, plan_of};
-ghost use Rattle.log_checker.specs.Windows.{IsLeastRaiseBelow, IsRaiseIn};
+ghost use Rattle.log_checker.specs.Windows.{IsLeastRaiseOf, IsRaiseIn};
 
-use crate::base::{base, block_at, least_cost};
+use crate::base::{base, block_at};
 use crate::claim::Claim;
 use crate::refute::fault;
 use crate::window::{Window, has_room, presses};
@@ -27,7 +27,7 @@ fn raise(codes: &Codes, side: &PlanBox, window: Window, block: u8) -> Option<u32
     if !presses(codes, side, window, block) {
         return None;
     }
-    let least = least_cost(codes, block)?;
+    let least = codes.least_cost(block)?;
     let data = block_at(codes, block);
     let late = (u32::from(window.to) + 1).saturating_sub(u32::from(data.due));
     Some((u32::from(data.weight) * late).saturating_sub(least))
@@ -47,7 +47,7 @@ fn lesser(a: Option<u32>, b: Option<u32>) -> Option<u32>
 /// The least raise of the blocks that press; None where none presses.
 fn least_raise(codes: &Codes, side: &PlanBox, window: Window) -> Option<u32>
     requires { HasCodes (choices codes.now) }
-    ensures raise { IsLeastRaiseBelow (choices codes.now) side.now window.from window.to (blocks (choices codes.now)) result }
+    ensures raise { IsLeastRaiseOf (choices codes.now) side.now window.from window.to result }
     ensures few { IfSome result (λ v. v < 2 ^ 31) }
 {
     let mut least = None;

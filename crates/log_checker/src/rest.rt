@@ -32,7 +32,7 @@ pub(crate) fn fixed_in(side: &PlanBox, block: u8) -> Option<u32>
 /// What a block costs at least in a box: the code to which the box fixes it, else the least of its codes. None where it
 /// has no code.
 #[tactic(auto, using(plan_rule::proofs::CountLaws::counts))]
-fn least_in(codes: &Codes, side: &PlanBox, block: u8) -> Option<u32>
+pub(crate) fn least_in(codes: &Codes, side: &PlanBox, block: u8) -> Option<u32>
     requires side { IsBox (choices codes.now) side.now }
     requires block { block < blocks (choices codes.now) }
     ensures least { IsLeastOf (MayTake (choices codes.now) side.now block) ((choices codes.now).cost block) result }

@@ -1,13 +1,13 @@
 //! What a window of days holds, and what a side puts into it.
 ghost use Rattle.std.specs.Prelude.{◌≡◌, ℕ, ◌<◌, ◌^◌, ◌↔◌, IsTrue, length, slice_get};
-ghost use Rattle.std.specs.Option.{option_map_or};
 ghost use Rattle.plan_rule.specs.Choices.{IsCode, blocks};
-ghost use Rattle.plan_rule.specs.Boxes.{IsBox, fixed_code};
+ghost use Rattle.plan_rule.specs.Boxes.{IsBox};
 ghost use Rattle.plan_rule.specs.Bounds.{presses, demand, used};
 ghost use Rattle.plan_rule.specs.Yards.{choices};
-ghost use Rattle.log_checker.specs.Windows.{HasRoom, plate_room, work_in};
+ghost use Rattle.log_checker.specs.Windows.{HasRoom, plate_room, used_by, work_in};
 
-use crate::base::{block_at, fixed_code};
+use crate::base::block_at;
+use crate::rest::fixed_in;
 use code_table::Codes;
 use plan_rule::{PlanBox, block_count};
 
@@ -58,10 +58,10 @@ fn taken(codes: &Codes, window: Window, block: u8, code: u32) -> u64
 fn used_by(codes: &Codes, side: &PlanBox, window: Window, block: u8) -> u64
     requires side { IsBox (choices codes.now) side.now }
     requires block { block < blocks (choices codes.now) }
-    ensures value { result ≡ option_map_or ((choices codes.now).taken window.from window.to block) (fixed_code side.now block) 0 }
+    ensures value { result ≡ used_by (choices codes.now) side.now window.from window.to block }
     ensures few { result < 2 ^ 48 }
 {
-    match fixed_code(side.literals(), block) {
+    match fixed_in(side, block) {
         Some(code) => taken(codes, window, block, code),
         None => 0,
     }
@@ -85,7 +85,7 @@ pub(crate) fn presses(codes: &Codes, side: &PlanBox, window: Window, block: u8) 
     requires { block < blocks (choices codes.now) }
     ensures { result ≡ presses (choices codes.now) side.now window.from window.to block }
 {
-    if fixed_code(side.literals(), block).is_some() {
+    if fixed_in(side, block).is_some() {
         return false;
     }
     let data = block_at(codes, block);

@@ -5,6 +5,7 @@ use Rattle.plan_rule.specs.Choices.{Choices, blocks}
 use Rattle.plan_rule.specs.Bounds.{MayFit}
 use Rattle.plan_rule.specs.Yards.{choices}
 use Rattle.plan_rule.proofs.TellLaws.{told}
+use Rattle.log_checker.specs.FixedBlocks.{AreFixed}
 use Rattle.log_checker.specs.Leasts.{IsFitUpTo}
 use Rattle.log_checker.proofs.FitExists.{fit_exists}
 use Rattle.log_checker.proofs.FitLaws.{above_by_next, above_by_rest, never_fits, rest_has, rest_next}
@@ -61,6 +62,10 @@ returns-in_err-sum c =
           c.loop-block.invariant.rest c.in_ok-rest-2.ensures.least refl)
           left c.in_err-sum.ensures is,
     )
+
+pub least_fit-requires-clause-fixed : goal.least_fit-requires-clause-fixed
+least_fit-requires-clause-fixed c =
+    subst (AreFixed c.args.codes.now c.args.side.now) (sym c.as_slice-fixed.ensures.value) c.fixed_of-fixed.ensures.fixed
 
 pub loop-block-preserved : goal.loop-block-preserved
 loop-block-preserved c =

@@ -1,23 +1,21 @@
-use Rattle.std.proofs.Common.{arith}
+use Rattle.std.proofs.Common.{ap, ◌∙◌, sym, arith}
+use Rattle.std.proofs.lemmas.Option.{same_Some}
+use Rattle.code_table.specs.declared.placement.Placement.{Placement}
 use Rattle.plan_rule.specs.Yards.{choices}
-use Rattle.plan_rule.specs.Bounds.{MayFit}
-use Rattle.plan_rule.proofs.CountLaws.{block_exists, count-length, is_code}
-use Rattle.log_checker.proofs.LeastLaws.{least_all}
+use Rattle.plan_rule.proofs.CountLaws.{is_code}
+use Rattle.log_checker.specs.Leasts.{IsClear}
+use Rattle.log_checker.proofs.LeastLaws.{least_done}
+use Rattle.log_checker.proofs.OnwardLaws.{onward_cost}
 use Rattle.log_checker.proofs.free.least_free.Goals as goal
 
-pub count-code-end-requires : goal.count-code-end-requires
-count-code-end-requires c = block_exists _ _ c.requires.block
-
-pub floor-requires : goal.floor-requires
-floor-requires c = is_code c.args.codes.now c.args.block c.loop-code.code c.requires.block (omega arith)
-
-pub with_code-best-requires-clause-code : goal.with_code-best-requires-clause-code
-with_code-best-requires-clause-code c = is_code c.args.codes.now c.args.block c.loop-code.code c.requires.block (omega arith)
-
-pub returns : goal.returns
-returns c =
-    least_all (MayFit (choices c.args.codes.now) c.args.side.now c.args.block) ((choices c.args.codes.now).cost c.args.block) c.args.limit c.loop-code.code
-    c.loop-code.best c.loop-code.invariant
-    (λ x may.
-    let within = may.0.0 in let n = count-length c.args.codes.now c.args.block (block_exists c.args.codes.now c.args.block c.requires.block) in
-    omega arith)
+pub returns-then-not-is_better : goal.returns-then-not-is_better
+returns-then-not-is_better c =
+    least_done (IsClear c.args.codes.now c.args.fixed.now c.args.block) ((choices c.args.codes.now).cost c.args.block) c.args.limit c.loop-code.code
+    c.least_from.result c.loop-code.best c.loop-code.invariant
+    (λ k le clear.
+    onward_cost c.args.codes.now c.args.block c.loop-code.code k c.place-place.result.start c.least_from.result c.least_from.ensures.limits
+    c.codes_ascend.ensures.order c.least_from.ensures.value
+    (is_code c.args.codes.now c.args.block c.loop-code.code c.requires.block (omega arith))
+    (λ p at. ap (λ (p : Placement). p.start) (same_Some p c.place-place.result (sym at ∙ c.place-place.ensures.value)))
+    le (c.requires.block, clear.0))
+    (sym c.is_better.ensures ∙ c.if-not-is_better.true)
