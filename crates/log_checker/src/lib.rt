@@ -13,13 +13,16 @@ mod fit;
 mod fixed;
 mod form;
 mod free;
+mod judge;
 mod near;
 mod refute;
 mod rest;
 mod span;
+mod steps;
 mod ties;
 mod verdict;
 mod walk;
 mod window;
 
+pub use judge::check;
 pub use verdict::{Refused, Verdict};

@@ -1,0 +1,13 @@
+use Rattle.std.proofs.Common.{rules}
+use Rattle.plan_rule.specs.Yards.{choices}
+use Rattle.log_checker.proofs.VerdictLaws.{answer_best, answer_decides}
+use Rattle.log_checker.proofs.judge.check.Goals as goal
+
+pub returns-clause-verdict : goal.returns-clause-verdict
+returns-clause-verdict c = search rules
+
+pub returns-clause-accepted : goal.returns-clause-accepted
+returns-clause-accepted c = answer_decides (choices c.args.codes.now) _ c.args.log.now _ (returns-clause-verdict c)
+
+pub returns-clause-best : goal.returns-clause-best
+returns-clause-best c = answer_best c.args.codes.now _ c.args.log.now _ c.yard-yard.ensures.limits (returns-clause-verdict c)

@@ -1,0 +1,8 @@
+use Rattle.plan_rule.specs.Yards.{choices}
+use Rattle.log_checker.specs.Claims.{plan_of}
+use Rattle.log_checker.specs.Verdicts.{AreStepsBefore}
+use Rattle.log_checker.proofs.steps.first_fault.Given as goal
+
+-- the records so far are steps
+abbrev pub invariant-loop-i : goal.invariant-loop-i
+invariant-loop-i l = AreStepsBefore (choices l.codes) (plan_of l.claim) l.records l.i

@@ -1,0 +1,97 @@
+//! The first record of a log that is no step, and why.
+ghost use Rattle.std.specs.Prelude.{◌<◌, ◌≤◌, ◌^◌, All, IfOk, MatchOption, length};
+ghost use Rattle.plan_rule.specs.Yards.{choices};
+ghost use Rattle.refutation_log.specs.Steps.{IsStep};
+ghost use Rattle.log_checker.specs.Claims.{IsClaim, plan_of};
+ghost use Rattle.log_checker.specs.Forms.{HasForm};
+ghost use Rattle.log_checker.specs.Verdicts.{AreStepsBefore, IsFault, IsFirst, IsFirstFault};
+
+use crate::Refused;
+use crate::branch::branch_fault;
+use crate::claim::Claim;
+use crate::energy::energy_fault;
+use crate::fit::fit_fault;
+use crate::form::has_form;
+use code_table::Codes;
+use refutation_log::{Cites, Record};
+use shape_exact::NoMemory;
+use std::alloc::Global;
+
+/// The first citation of a number that is not below this one.
+fn first_late(cites: &Cites, step: u64) -> Option<u64>
+    ensures { MatchOption result (All (λ k. k < step) cites.now) (IsFirst (λ k. step ≤ k) cites.now) }
+{
+    for cite in cites.list() {
+        if *cite >= step {
+            return Some(*cite);
+        }
+    }
+    None
+}
+
+/// Why the record is no step after the earlier ones; None where it is one.
+fn fault_of(
+    alloc: Global,
+    codes: &Codes,
+    claim: Option<Claim<'_>>,
+    earlier: &[Record],
+    entry: &Record,
+) -> Result<Option<Refused>, NoMemory>
+    requires claim { IsClaim (choices codes.now) claim }
+    requires earlier { All (HasForm (choices codes.now)) earlier.now }
+    requires few { length earlier.now < 10 ^ 18 }
+    ensures { IfOk result (λ found. MatchOption found (IsStep (choices codes.now) (plan_of claim.entry) earlier.now entry.now)
+        (IsFault (choices codes.now) (plan_of claim.entry) earlier.now entry.now)) }
+{
+    let step = earlier.len() as u64;
+    if !has_form(codes, entry) {
+        return Ok(Some(Refused::BadForm(step)));
+    }
+    match entry {
+        Record::Branch {
+            block,
+            lo,
+            hi,
+            side,
+            cites,
+        } => {
+            if let Some(cite) = first_late(cites, step) {
+                return Ok(Some(Refused::BadCite(step, cite)));
+            }
+            match branch_fault(alloc, codes, claim, earlier, *block, *lo, *hi, side, cites)? {
+                Some(code) => Ok(Some(Refused::Uncovered(step, code))),
+                None => Ok(None),
+            }
+        }
+        Record::Fit { side } => match fit_fault(codes, claim, side) {
+            Some(bound) => Ok(Some(Refused::BoundLow(step, bound))),
+            None => Ok(None),
+        },
+        Record::Energy { from, to, side } => {
+            match energy_fault(codes, claim, *from, *to, side) {
+                Some(bound) => Ok(Some(Refused::BoundLow(step, bound))),
+                None => Ok(None),
+            }
+        }
+    }
+}
+
+/// Why the first record that is no step is none; None where each is a step.
+pub(crate) fn first_fault(
+    alloc: Global,
+    codes: &Codes,
+    claim: Option<Claim<'_>>,
+    records: &[Record],
+) -> Result<Option<Refused>, NoMemory>
+    requires claim { IsClaim (choices codes.now) claim }
+    requires few { length records.now < 10 ^ 18 }
+    ensures { IfOk result (λ found. MatchOption found (AreStepsBefore (choices codes.now) (plan_of claim.entry) records.now (length records.now))
+        (IsFirstFault (choices codes.now) (plan_of claim.entry) records.now)) }
+{
+    for i in 0..records.len() {
+        if let Some(refused) = fault_of(alloc, codes, claim, &records[..i], &records[i])? {
+            return Ok(Some(refused));
+        }
+    }
+    Ok(None)
+}
