@@ -1,6 +1,7 @@
 //! Runs over desks in memory, and one over the real files. The texts of the rows are worked by hand.
 ghost use Rattle.std.specs.Prelude.{◌≡◌};
 
+mod logs;
 mod regions;
 mod twelve_blocks;
 mod unread;

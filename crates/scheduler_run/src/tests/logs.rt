@@ -111,7 +111,12 @@ fn verdicts_on_logs_of_small_yards(rt: HostRuntime) -> Result<(), Fail> {
             "log 1\nend\n",
             "not certified 1 PlanNotFeasible 0 1\n",
         ),
-        (SQUARES, FIRST, "log 1\nfit -\nend\n", "not certified 4 BoundLow 0 0\n"),
+        (
+            SQUARES,
+            FIRST,
+            "log 1\nfit -\nend\n",
+            "not certified 4 BoundLow 0 0\n",
+        ),
         (
             SQUARES,
             FIRST,
@@ -137,7 +142,12 @@ fn verdicts_on_logs_of_small_yards(rt: HostRuntime) -> Result<(), Fail> {
             "log 1\nenergy 0 2 -\nend\n",
             "not certified 4 BoundLow 0 0\n",
         ),
-        (SQUARES, FIRST, "log 1\nfit 0:18\nend\n", "not certified 6 BadForm 0\n"),
+        (
+            SQUARES,
+            FIRST,
+            "log 1\nfit 0:18\nend\n",
+            "not certified 6 BadForm 0\n",
+        ),
         (
             SQUARES,
             FIRST,

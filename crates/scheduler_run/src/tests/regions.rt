@@ -14,7 +14,7 @@ fn coded(alloc: Global, bytes: &[u8]) -> Option<Codes> {
 }
 
 /// The codes of the yard that these parts make.
-fn codes_of(alloc: Global, parts: &[&str]) -> Option<Codes> {
+pub fn codes_of(alloc: Global, parts: &[&str]) -> Option<Codes> {
     let mut text = Vec::new(alloc);
     for part in parts {
         text.extend_from_slice(part.as_bytes()).ok()?;
