@@ -2,7 +2,7 @@ pub mod BesideLaws
 pub mod BranchLaws
 pub mod CiteLaws
 pub mod CutLaws
-pub mod FitExists
+pub mod FitExistLaws
 pub mod FitLaws
 pub mod FixedLaws
 pub mod FreeLaws

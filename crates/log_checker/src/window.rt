@@ -80,7 +80,7 @@ fn used(codes: &Codes, side: &PlanBox, window: Window) -> u64
     sum
 }
 
-/// Whether the side does not fix the block, and all of its work lies in the window where it is not late.
+/// Whether the side does not fix the block, which is released in the window or later and due in it or earlier.
 pub(crate) fn presses(codes: &Codes, side: &PlanBox, window: Window, block: u8) -> bool
     requires { block < blocks (choices codes.now) }
     ensures { result ≡ presses (choices codes.now) side.now window.from window.to block }

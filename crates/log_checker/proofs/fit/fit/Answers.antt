@@ -7,7 +7,7 @@ use Rattle.plan_rule.specs.Yards.{choices}
 use Rattle.plan_rule.proofs.TellLaws.{told}
 use Rattle.log_checker.specs.FixedBlocks.{AreFixed}
 use Rattle.log_checker.specs.Leasts.{IsFitUpTo}
-use Rattle.log_checker.proofs.FitExists.{fit_exists}
+use Rattle.log_checker.proofs.FitExistLaws.{fit_exists}
 use Rattle.log_checker.proofs.FitLaws.{above_by_next, above_by_rest, never_fits, rest_has, rest_next}
 use Rattle.log_checker.proofs.LeastLaws.{sum_more}
 use Rattle.log_checker.proofs.fit.fit.Goals as goal
