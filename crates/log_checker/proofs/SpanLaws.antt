@@ -5,14 +5,10 @@ use Rattle.std.specs.List.{All, Contains, filter}
 use Rattle.std.proofs.lemmas.Bool.{cases_eq, cases_order, lt-ltb, eqb-true, and_parts, false≢true}
 use Rattle.std.proofs.lemmas.Option.{slice_get-get_or}
 use Rattle.std.proofs.lemmas.List.Elements.{All-append, All-cons, All-filter, All-contains, Contains-get_or, Contains-append_left, Contains-append_right}
-use Rattle.shape_exact.specs.Yards.{PlainYard}
-use Rattle.code_table.specs.Placements.{placements}
 use Rattle.plan_rule.specs.declared.literal.Literal.{Literal}
-use Rattle.plan_rule.specs.Choices.{Choices, blocks, count, IsCode}
+use Rattle.plan_rule.specs.Choices.{Choices, count, IsCode}
 use Rattle.plan_rule.specs.Boxes.{IsAscending, IsWhole, LeavesFree, Covers, exact, with_literal}
-use Rattle.plan_rule.specs.Yards.{choices}
 use Rattle.plan_rule.proofs.BehindLaws.{one_literal}
-use Rattle.plan_rule.proofs.CountLaws.{code_exists}
 use Rattle.log_checker.specs.declared.span.Span.{Span}
 use Rattle.log_checker.specs.Spans.{IsWithin, IsSpanOf, HoldsOne, HoldOthers, HaveCode}
 
@@ -175,12 +171,12 @@ one_literal_span box items b i d same up within here code = (
 )
 
 -- each code, where no literal is on the block
-pub no_literal_span : (yard : PlainYard) (box items : List Literal) (b i n : ℕ) → items ≡ box → b < blocks (choices yard) → length items ≤ i
-    → ((k : ℕ) (d : Literal) → k < i → (get_or items k d).block ≡ b → ⊥) → n ≡ length (placements yard b) → (code : ℕ)
-    → IsCode (choices yard) b code → IsWithin (record { lo = 0; hi = n }) code ↔ HaveCode box b code
-no_literal_span yard box items b i n same exists past none long code is = (
+pub no_literal_span : (c : Choices) (box items : List Literal) (b i n : ℕ) → items ≡ box → length items ≤ i
+    → ((k : ℕ) (d : Literal) → k < i → (get_or items k d).block ≡ b → ⊥) → n ≡ count c b → (code : ℕ)
+    → IsCode c b code → IsWithin (record { lo = 0; hi = n }) code ↔ HaveCode box b code
+no_literal_span c box items b i n same past none long code is = (
   λ h. subst (λ ls. HaveCode ls b code) same (λ k d inside on. absurd (none k d (omega arith) on)),
-  λ h. let below = code_exists yard b code is in (omega arith, omega arith),
+  λ h. let below = is.1 in (omega arith, omega arith),
 )
 
 -- a box with a literal more on the block itself

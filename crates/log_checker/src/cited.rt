@@ -10,6 +10,7 @@ ghost use Rattle.refutation_log.specs.Steps.{result_of};
 ghost use Rattle.log_checker.specs.Forms.{HasForm};
 ghost use Rattle.log_checker.specs.Spans.{AreCited, Has, HaveCode, HoldOthers, HoldsOne, InOne, IsSpanOf, IsWithin};
 
+use crate::form::count_of;
 use crate::span::Span;
 use code_table::Codes;
 use plan_rule::{Literal, PlanBox};
@@ -22,7 +23,7 @@ fn is_whole(codes: &Codes, l: Literal) -> bool
     requires { l.block < blocks (choices codes.now) }
     ensures { IsTrue result ↔ IsWhole (choices codes.now) l }
 {
-    l.lo == 0 && l.hi == codes.count(l.block)
+    l.lo == 0 && l.hi == count_of(codes, l.block)
 }
 
 /// The place of the first literal, from a place on, whose block is not below this one.
@@ -90,7 +91,7 @@ fn span_on(codes: &Codes, outer: &PlanBox, block: u8) -> Span
     }
     Span {
         lo: 0,
-        hi: codes.count(block),
+        hi: count_of(codes, block),
     }
 }
 

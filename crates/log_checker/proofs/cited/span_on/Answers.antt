@@ -1,9 +1,6 @@
-use Rattle.plan_rule.proofs.CountLaws.{block_exists}
+use Rattle.plan_rule.specs.Yards.{choices}
 use Rattle.log_checker.proofs.SpanLaws.{no_literal_span, one_literal_span}
 use Rattle.log_checker.proofs.cited.span_on.Goals as goal
-
-pub count-requires : goal.count-requires
-count-requires c = block_exists _ _ c.requires
 
 pub returns-then-l-block : goal.returns-then-l-block
 returns-then-l-block c = λ code is.
@@ -12,5 +9,5 @@ returns-then-l-block c = λ code is.
 
 pub returns : goal.returns
 returns c =
-    no_literal_span c.args.codes.now c.args.outer.now c.literals-l-items.result.now c.args.block c.loop-l.l-index c.count.result
-    c.literals-l-items.ensures.value c.requires c.loop-l-test.false c.loop-l.invariant c.count.ensures.value
+    no_literal_span (choices c.args.codes.now) c.args.outer.now c.literals-l-items.result.now c.args.block c.loop-l.l-index c.count_of.result
+    c.literals-l-items.ensures.value c.loop-l-test.false c.loop-l.invariant c.count_of.ensures
