@@ -50,7 +50,7 @@ fn with_code(
 }
 
 /// The least own cost, where it is at most the limit, of the codes at which the block meets no fixed block. The walk
-/// ends with the first start that shows every later code to be no better.
+/// ends where the block's least own cost, or the start that it has come to, shows that no later code is better.
 #[tactic(auto, using(plan_rule::proofs::CountLaws::counts))]
 pub(crate) fn least_free(codes: &Codes, fixed: &[Fixed], block: u8, limit: u32) -> Option<u32>
     requires block { block < blocks (choices codes.now) }
@@ -58,10 +58,12 @@ pub(crate) fn least_free(codes: &Codes, fixed: &[Fixed], block: u8, limit: u32) 
     ensures { IsLeastClear codes.now fixed.now block limit result }
 {
     codes.codes_ascend(block);
+    let least = codes.least_cost(block)?;
     let mut best = None;
     for code in 0..codes.count(block) {
         let place = codes.place(block, code);
-        if !is_better(least_from(codes, block, place.start), best, limit) {
+        let floor = least.max(least_from(codes, block, place.start));
+        if !is_better(floor, best, limit) {
             return best;
         }
         best = with_code(codes, fixed, block, code, place, limit, best);
