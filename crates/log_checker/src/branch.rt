@@ -19,8 +19,9 @@ use refutation_log::{Cites, Record};
 use shape_exact::NoMemory;
 use std::alloc::Global;
 
-/// The first code of the range beside the side that nothing covers: it clashes with no code that the side fixes, the base
-/// does not refute the side with it, and no cited record's box covers the side with it. None where each code is covered.
+/// The first code of the range that nothing covers beside the side: it clashes with no code that the side fixes, the
+/// base does not refute the side with it, and no cited record's box covers the side with it. None where each code is
+/// covered.
 pub(crate) fn branch_fault(
     alloc: Global,
     codes: &Codes,
@@ -42,7 +43,8 @@ pub(crate) fn branch_fault(
     ensures { IfOk result (λ found. MatchOption found
         ((code : ℕ) → lo ≤ code → code < hi
         → IsCovered (choices codes.now) (plan_of claim.entry) earlier.now side.now cites.now block code)
-        (λ code. IsFirstUncovered (choices codes.now) (plan_of claim.entry) earlier.now block lo hi side.now cites.now code)) }
+        (λ code. IsFirstUncovered (choices codes.now) (plan_of claim.entry) earlier.now block lo hi
+        side.now cites.now code)) }
 {
     let cut = cut_of(codes, claim, side, block);
     let spans = spans_of(alloc, codes, earlier, cites, side, block)?;
@@ -57,3 +59,6 @@ pub(crate) fn branch_fault(
         spans.as_slice(),
     ))
 }
+
+#[cfg(test)]
+mod tests;

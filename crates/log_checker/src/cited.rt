@@ -82,7 +82,8 @@ fn holds_others(codes: &Codes, outer: &PlanBox, side: &PlanBox, block: u8) -> bo
 /// The codes that the literal on the block has; each code where there is no such literal.
 fn span_on(codes: &Codes, outer: &PlanBox, block: u8) -> Span
     requires { block < blocks (choices codes.now) }
-    ensures { (code : ℕ) → IsCode (choices codes.now) block code → IsWithin result code ↔ HaveCode outer.now block code }
+    ensures { (code : ℕ) → IsCode (choices codes.now) block code
+        → IsWithin result code ↔ HaveCode outer.now block code }
 {
     for l in outer.literals() {
         if l.block == block {
@@ -184,7 +185,8 @@ fn in_order(mut spans: Vec<Span>) -> Vec<Span>
     spans
 }
 
-/// The codes of the block for which some cited record's box covers the side with that code, as spans by their first codes.
+/// The codes of the block for which some cited record's box covers the side with that code: spans, by their first
+/// codes.
 pub(crate) fn spans_of(
     alloc: Global,
     codes: &Codes,
@@ -197,7 +199,8 @@ pub(crate) fn spans_of(
     requires cites { All (λ k. k < length earlier.now) cites.now }
     requires block { block < blocks (choices codes.now) }
     requires free { LeavesFree side.now block }
-    ensures cited { IfOk result (λ spans. AreCited (choices codes.now) earlier.now cites.now side.now block spans.items) }
+    ensures cited { IfOk result
+        (λ spans. AreCited (choices codes.now) earlier.now cites.now side.now block spans.items) }
     ensures ascending { IfOk result (λ spans. IsNonDecreasingBy (λ s. s.lo) spans.items) }
 {
     let mut spans = Vec::new(alloc);

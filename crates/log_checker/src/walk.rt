@@ -1,5 +1,6 @@
 //! The first code of a range that nothing covers.
-ghost use Rattle.std.specs.Prelude.{◌≡◌, ◌+◌, ◌^◌, ◌<◌, ◌≤◌, ◌↔◌, ◌⊎◌, ℕ, All, IsTrue, MatchOption, Some, length, slice_get};
+ghost use Rattle.std.specs.Prelude.{◌≡◌, ◌+◌, ◌^◌, ◌<◌, ◌≤◌, ◌↔◌, ◌⊎◌, ℕ, All, IsTrue, MatchOption, Some};
+ghost use Rattle.std.specs.Prelude.{length, slice_get};
 ghost use Rattle.std.specs.List.Sorted.{IsNonDecreasingBy};
 ghost use Rattle.shape_exact.specs.declared.block.Block.{Block};
 ghost use Rattle.code_table.specs.Placements.{cost_at, placements};
@@ -91,7 +92,8 @@ fn is_settled(
     requires x { place.x ≤ 400 }
     requires y { place.y ≤ 400 }
     requires standing { All (IsStanding codes.now) fixed.now }
-    ensures { IsTrue result ↔ (Takes cut ((choices codes.now).cost block code) code ⊎ MeetsOne codes.now fixed.now block place) }
+    ensures { IsTrue result
+        ↔ (Takes cut ((choices codes.now).cost block code) code ⊎ MeetsOne codes.now fixed.now block place) }
 {
     cut.takes(cost_of(codes, block, place), code) || meets_one(codes, fixed, block, place)
 }
@@ -112,7 +114,8 @@ pub(crate) fn first_uncovered(
     requires few { length fixed.now ≤ 32 }
     requires standing { All (IsStanding codes.now) fixed.now }
     requires ascending { IsNonDecreasingBy (λ s. s.lo) spans.now }
-    ensures { MatchOption result ((code : ℕ) → lo ≤ code → code < hi → IsSettled codes.now block cut fixed.now spans.now code)
+    ensures { MatchOption result
+        ((code : ℕ) → lo ≤ code → code < hi → IsSettled codes.now block cut fixed.now spans.now code)
         (λ code. IsFirstWithout (IsSettled codes.now block cut fixed.now spans.now) lo hi code) }
 {
     let start = Walk {
