@@ -23,7 +23,9 @@ pub record IsFirst {X : Type 0} (P : X → Type 0) (xs : List X) (x : X) : Type 
   pub here : P x
 
 -- the first code of a branch that nothing covers
-pub record IsFirstUncovered (c : Choices) (t : Option (List ℕ)) (earlier : List Record) (b lo hi : ℕ) (side : List Literal) (cites : List ℕ) (code : ℕ) : Type 0 where
+pub record IsFirstUncovered
+    (c : Choices) (t : Option (List ℕ)) (earlier : List Record) (b lo hi : ℕ) (side : List Literal) (cites : List ℕ)
+    (code : ℕ) : Type 0 where
   pub from : lo ≤ code
   pub below : code < hi
   pub before : (k : ℕ) → lo ≤ k → k < code → IsCovered c t earlier side cites b k

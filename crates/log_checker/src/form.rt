@@ -75,7 +75,8 @@ fn is_range(codes: &Codes, block: u8, lo: u32, hi: u32) -> bool
 
 /// Whether a branch has the form of one.
 fn is_branch(codes: &Codes, block: u8, lo: u32, hi: u32, side: &PlanBox) -> bool
-    ensures { IsTrue result ↔ (IsBox (choices codes.now) side.now × (block < blocks (choices codes.now)) × LeavesFree side.now block × IsRange (choices codes.now) block lo hi) }
+    ensures { IsTrue result ↔ (IsBox (choices codes.now) side.now × (block < blocks (choices codes.now))
+        × LeavesFree side.now block × IsRange (choices codes.now) block lo hi) }
 {
     block < block_count(codes)
         && is_box(codes, side)

@@ -89,9 +89,9 @@ fn clash_of(codes: &Codes, plan: Option<&Plan>) -> Option<(u8, u8)>
     }
 }
 
-/// Whether the log shows that the plan is the best, or where there is none that no plan is feasible; and if not, the first
-/// reason why it does not: a clash in the plan, then the first record that is no step, by its form, its citations and what
-/// it should show, then that the last record does not refute every plan.
+/// Whether the log shows that the plan is the best, or where there is none that no plan is feasible; and if not, the
+/// first reason why it does not: a clash in the plan, then the first record that is no step, by its form, its citations
+/// and what it should show, then that the last record does not refute every plan.
 ///
 /// Nothing is asked of who wrote the log. The only answer beside a verdict is want of memory.
 pub fn check(
@@ -101,10 +101,12 @@ pub fn check(
     log: &Log,
 ) -> Result<Verdict, NoMemory>
     requires { IfSome plan (λ p. IsPlan (choices codes.now) p.now) }
-    ensures verdict { IfOk result (IsVerdict (choices codes.now) (option_map (λ p. p.now) plan.entry) log.now) }
+    ensures verdict { IfOk result
+        (IsVerdict (choices codes.now) (option_map (λ p. p.now) plan.entry) log.now) }
     ensures accepted { IfOk result
         (λ v. (v ≡ Accepted) ↔ IsAccepted (choices codes.now) (option_map (λ p. p.now) plan.entry) log.now) }
-    ensures best { IfOk result (λ v. v ≡ Accepted → IsBest (choices codes.now) (option_map (λ p. p.now) plan.entry)) }
+    ensures best { IfOk result
+        (λ v. v ≡ Accepted → IsBest (choices codes.now) (option_map (λ p. p.now) plan.entry)) }
 {
     let _yard = codes.yard();
     if let Some((a, b)) = clash_of(codes, plan) {

@@ -40,7 +40,8 @@ fn fault_of(
     requires claim { IsClaim (choices codes.now) claim }
     requires earlier { All (HasForm (choices codes.now)) earlier.now }
     requires few { length earlier.now < 10 ^ 18 }
-    ensures { IfOk result (λ found. MatchOption found (IsStep (choices codes.now) (plan_of claim.entry) earlier.now entry.now)
+    ensures { IfOk result (λ found. MatchOption found
+        (IsStep (choices codes.now) (plan_of claim.entry) earlier.now entry.now)
         (IsFault (choices codes.now) (plan_of claim.entry) earlier.now entry.now)) }
 {
     let step = earlier.len() as u64;
@@ -85,7 +86,8 @@ pub(crate) fn first_fault(
 ) -> Result<Option<Refused>, NoMemory>
     requires claim { IsClaim (choices codes.now) claim }
     requires few { length records.now < 10 ^ 18 }
-    ensures { IfOk result (λ found. MatchOption found (AreStepsBefore (choices codes.now) (plan_of claim.entry) records.now (length records.now))
+    ensures { IfOk result (λ found. MatchOption found
+        (AreStepsBefore (choices codes.now) (plan_of claim.entry) records.now (length records.now))
         (IsFirstFault (choices codes.now) (plan_of claim.entry) records.now)) }
 {
     for i in 0..records.len() {
