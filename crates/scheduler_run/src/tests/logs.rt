@@ -89,7 +89,7 @@ fn judged(alloc: Global, codes: &Codes, plan: &str, log: &str) -> Result<Vec<u8>
 
 #[test]
 fn verdicts_on_logs_of_small_yards(rt: HostRuntime) -> Result<(), Fail> {
-    let cases: [(&[&str], &str, &str, &str); 20] = [
+    let cases: [(&[&str], &str, &str, &str); 23] = [
         (SQUARES, FIRST, FIVE, "certified\n"),
         (
             SQUARES,
@@ -180,6 +180,24 @@ fn verdicts_on_logs_of_small_yards(rt: HostRuntime) -> Result<(), Fail> {
         ),
         (SQUARES, "", FIVE, "refused plan 1 Line 1\n"),
         (SQUARES, FIRST, "log 1\nfit -\n", "refused log 3 NoEnd\n"),
+        (
+            SQUARES,
+            FIRST,
+            "log 1\nbranch 00 0 18 - -\nend\n",
+            "refused log 2 Line 2\n",
+        ),
+        (
+            SQUARES,
+            FIRST,
+            "log 1\nfit 0:1,0:2\nend\n",
+            "refused log 2 Line 2\n",
+        ),
+        (
+            SQUARES,
+            FIRST,
+            "log 1\nbranch 0 18 0 - -\nend\n",
+            "refused log 2 Line 2\n",
+        ),
     ];
     for (parts, plan, log, said) in cases {
         let Some(codes) = codes_of(rt.alloc(), parts) else {
