@@ -11,3 +11,4 @@ pub mod CostLaws
 pub mod OrderLaws
 pub mod EndLaws
 pub mod CodeLaws
+pub mod ListedLaws

@@ -5,6 +5,7 @@ ghost use Rattle.shape_exact.specs.Shapes.{turned, cells};
 ghost use Rattle.shape_exact.specs.declared.block.Block.{Block};
 ghost use Rattle.shape_exact.specs.declared.plate.Plate.{Plate};
 ghost use Rattle.plate_calendar.specs.Calendars.{open_days};
+ghost use Rattle.code_table.specs.declared.placement.Placement.{Placement};
 ghost use Rattle.code_table.specs.Codes.{IsCode};
 ghost use Rattle.code_table.specs.Orders.{AreAscending, EndsAscend};
 ghost use Rattle.code_table.specs.Costs.{IsAtMostEachCost, IsCostOfSome};
@@ -176,6 +177,15 @@ impl Codes {
         requires { block < length self.now.blocks }
         ensures order { AreAscending (placements self.now block) }
         ensures ends { EndsAscend (placements self.now block) }
+    {
+        let _yard = self.yard();
+    }
+
+    /// A law: each placement of a block, by the rule, has a code.
+    pub fn placements_have_codes(&self, block: u8)
+        requires { block < length self.now.blocks }
+        ensures { (b : Block) (p : Placement) → slice_get self.now.blocks block ≡ Some b
+            → IsPlacement self.now b p → (code : ℕ) × (slice_get (placements self.now block) code ≡ Some p) }
     {
         let _yard = self.yard();
     }
