@@ -4,13 +4,13 @@ use Rattle.std.specs.Prelude.{slice_get, take, All, [], ◌∷◌, ◌++◌, Boo
 use Rattle.std.proofs.lemmas.Bool.{cases_lt, eqb-true, eq-eqb, true≢false}
 use Rattle.std.proofs.lemmas.Option.{same_Some, slice_get-get_or}
 use Rattle.std.proofs.lemmas.List.{get_or-take, length-take-le}
-use Rattle.plan_rule.specs.Choices.{Choices, blocks, count}
-use Rattle.plan_rule.specs.Boxes.{IsBox, LeavesFree, with_literal}
+use Rattle.plan_rule.specs.Choices.{Choices, count}
+use Rattle.plan_rule.specs.Boxes.{with_literal}
 use Rattle.plan_rule.specs.declared.literal.Literal.{Literal}
 use Rattle.refutation_log.specs.declared.record.Record.{Record}
 use Rattle.refutation_log.specs.declared.record.Record.TheVariants.{Branch, Fit, Energy}
-use Rattle.refutation_log.specs.Steps.{IsStep, IsStepAt, IsBranch, IsRange, IsCovered, result_of}
-use Rattle.log_checker.specs.Forms.{CitesBelow, HasForm, IsOverAll}
+use Rattle.refutation_log.specs.Steps.{IsStep, IsStepAt, IsCovered, result_of}
+use Rattle.log_checker.specs.Forms.{HasForm, IsOverAll}
 use Rattle.log_checker.specs.Verdicts.{AreStepsBefore}
 
 -- a step has the form of one

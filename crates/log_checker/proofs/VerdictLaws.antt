@@ -1,26 +1,26 @@
 -- A log has a verdict, and where it is refused it is not accepted.
-use Rattle.std.proofs.Common.{◌≡◌, ◌≢◌, ℕ, ◌+◌, ◌<◌, ◌≤◌, List, Option, Some, None, length, refl, sym, ap, ◌∙◌, subst, inl, inr, arith}
-use Rattle.std.specs.Prelude.{slice_get, take, All, ◌↔◌, [], ◌∷◌, Result, Ok, Err, IfOk}
+use Rattle.std.proofs.Common.{◌≡◌, ℕ, ◌<◌, List, Option, Some, None, length, refl, sym, ◌∙◌, subst, arith}
+use Rattle.std.specs.Prelude.{slice_get, take, All, ◌↔◌, Result, Ok, Err, IfOk}
 use Rattle.std.proofs.lemmas.List.Elements.{All-contains, All-nil}
-use Rattle.std.proofs.lemmas.Option.{same_Some, none-some, slice_get_within, slice_get-get_or, get_or_from_slice_get}
+use Rattle.std.proofs.lemmas.Option.{same_Some, slice_get_within, get_or_from_slice_get}
 use Rattle.plan_rule.specs.Choices.{Choices, blocks}
-use Rattle.plan_rule.specs.Plans.{IsAnswer, IsBest, IsFeasible, code_of}
+use Rattle.plan_rule.specs.Plans.{IsAnswer, IsBest, IsFeasible}
 use Rattle.plan_rule.specs.Yards.{choices}
 use Rattle.shape_exact.specs.Yards.{PlainYard, IsYard}
 use Rattle.shape_exact.specs.declared.memory.NoMemory.{NoMemory}
 use Rattle.refutation_log.proofs.AcceptedLaws.{accepted_of_yard}
 use Rattle.plan_rule.specs.Pairs.{IsFirstPair}
-use Rattle.plan_rule.specs.Bounds.{MayFit, IsFit, IsEnergy, Refutes}
+use Rattle.plan_rule.specs.Bounds.{MayFit, Refutes}
 use Rattle.plan_rule.proofs.UniqueLaws.{bound_unique, energy_unique}
 use Rattle.refutation_log.specs.declared.record.Record.{Record}
 use Rattle.refutation_log.specs.declared.record.Record.TheVariants.{Branch, Fit, Energy}
 use Rattle.refutation_log.specs.Logs.{cites_of}
-use Rattle.refutation_log.specs.Steps.{IsAccepted, IsStep, IsStepAt, result_of}
+use Rattle.refutation_log.specs.Steps.{IsAccepted, IsStep}
 use Rattle.log_checker.specs.declared.verdict.Refused.{Refused}
 use Rattle.log_checker.specs.declared.verdict.Refused.TheVariants.{PlanNotFeasible, BadCite, Uncovered, BoundLow, NotEmpty, BadForm}
 use Rattle.log_checker.specs.declared.verdict.Verdict.{Verdict}
 use Rattle.log_checker.specs.declared.verdict.Verdict.TheVariants as verdict
-use Rattle.log_checker.specs.Verdicts.{AreStepsBefore, EndsEmpty, HasLowBound, IsFault, IsFirst, IsFirstFault, IsRefusal, IsVerdict, LeavesCode}
+use Rattle.log_checker.specs.Verdicts.{HasLowBound, IsFault, IsFirstFault, IsRefusal, IsVerdict, LeavesCode}
 use Rattle.log_checker.proofs.StepLaws.{step_form}
 
 -- a step cites earlier records alone

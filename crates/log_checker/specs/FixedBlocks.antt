@@ -19,7 +19,8 @@ pub record IsStanding (yard : PlainYard) (f : Fixed) : Type 0 where
 -- a block with a placement stands in the list exactly where the side fixes the block to that placement's code
 abbrev pub AreFixed : PlainYard → List Literal → List Fixed → Type 0
 AreFixed yard side list =
-    (f : Fixed) → Contains list f ↔ ((d : ℕ) × Fixes side f.block d × (slice_get (placements yard f.block) d ≡ Some f.place))
+    (f : Fixed) → Contains list f
+    ↔ ((d : ℕ) × Fixes side f.block d × (slice_get (placements yard f.block) d ≡ Some f.place))
 
 -- a fixed block meets another block at a placement
 pub record Meets (yard : PlainYard) (f : Fixed) (b : ℕ) (p : Placement) : Type 0 where

@@ -1,5 +1,5 @@
 -- What a checker says of a log: that it is accepted, or the first reason why it is not.
-use Rattle.std.specs.Prelude.{◌≡◌, ℕ, ◌+◌, ◌<◌, ◌≤◌, List, [], Option, Some, None, ◌⊎◌, length, slice_get, take}
+use Rattle.std.specs.Prelude.{◌≡◌, ℕ, ◌+◌, ◌<◌, ◌≤◌, List, [], Option, Some, None, length, slice_get, take}
 use Rattle.plan_rule.specs.declared.literal.Literal.{Literal}
 use Rattle.plan_rule.specs.Choices.{Choices}
 use Rattle.plan_rule.specs.Plans.{IsAnswer}
@@ -75,7 +75,8 @@ pub record IsFirstFault (c : Choices) (t : Option (List ℕ)) (log : List Record
   pub before : AreStepsBefore c t log number
   pub here : IsFault c t (take number log) entry refused
 
--- the first reason to refuse a log: a clash in the plan, then the first record that is no step, then what is left at the end
+-- the first reason to refuse a log: a clash in the plan, then the first record that is no step, then that the last one
+-- does not refute every plan
 abbrev pub IsRefusal : Choices → Option (List ℕ) → List Record → Refused → Type 0
 IsRefusal c t log (PlanNotFeasible a b) = HasClash c t a b
 IsRefusal c t log NotEmpty = IsAnswer c t × AreStepsBefore c t log (length log) × (EndsEmpty c log → ⊥)

@@ -4,27 +4,19 @@ ghost use Rattle.std.specs.List.{AllWithin};
 ghost use Rattle.std.specs.List.Sorted.{IsNonDecreasingBy, IsPermutation};
 ghost use Rattle.plan_rule.specs.declared.literal.Literal.{Literal};
 ghost use Rattle.plan_rule.specs.Choices.{IsCode, blocks};
-ghost use Rattle.plan_rule.specs.Boxes.{AreAmong, IsAscending, IsBox, IsWhole, LeavesFree, with_literal};
+ghost use Rattle.plan_rule.specs.Boxes.{AreAmong, IsAscending, IsBox, LeavesFree, with_literal};
 ghost use Rattle.plan_rule.specs.Yards.{choices};
 ghost use Rattle.refutation_log.specs.Steps.{result_of};
 ghost use Rattle.log_checker.specs.Forms.{HasForm};
 ghost use Rattle.log_checker.specs.Spans.{AreCited, Has, HaveCode, HoldOthers, HoldsOne, InOne, IsSpanOf, IsWithin};
 
-use crate::form::count_of;
+use crate::form::{count_of, is_whole};
 use crate::span::Span;
 use code_table::Codes;
 use plan_rule::{Literal, PlanBox};
 use refutation_log::{Cites, Record};
 use shape_exact::NoMemory;
 use std::alloc::Global;
-
-/// Whether the literal has each code of its block.
-fn is_whole(codes: &Codes, l: Literal) -> bool
-    requires { l.block < blocks (choices codes.now) }
-    ensures { IsTrue result ↔ IsWhole (choices codes.now) l }
-{
-    l.lo == 0 && l.hi == count_of(codes, l.block)
-}
 
 /// The place of the first literal, from a place on, whose block is not below this one.
 fn place_from(list: &[Literal], from: usize, block: u8) -> usize
@@ -40,7 +32,8 @@ fn place_from(list: &[Literal], from: usize, block: u8) -> usize
     at
 }
 
-/// Whether the literal is whole or holds one of the others, of which this is the first that is not below its block.
+/// Whether the literal is whole or holds one of the others; `at` is the place of the first of them that is not below its
+/// block.
 fn holds_at(codes: &Codes, l: Literal, others: &[Literal], at: usize) -> bool
     requires block { l.block < blocks (choices codes.now) }
     requires ascending { IsAscending others.now }

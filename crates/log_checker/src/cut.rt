@@ -10,6 +10,7 @@ ghost use Rattle.plan_rule.specs.Yards.{choices};
 ghost use Rattle.log_checker.specs.Claims.{IsClaim, plan_of};
 ghost use Rattle.log_checker.specs.Cuts.{IsCut, Takes};
 
+use crate::block::block_at;
 use crate::claim::Claim;
 use crate::rest::rest_of;
 use crate::ties::first_tie;
@@ -23,7 +24,7 @@ pub(crate) enum Cut {
     Every,
     /// No plan is claimed, and the base is a number.
     Nothing,
-    /// The codes that cost more than the first number, and those that cost as much from the code on that is the second.
+    /// The codes that cost more than the first number and, from the second number on, those that cost as much.
     Above(u32, u32),
 }
 
@@ -34,8 +35,7 @@ pub(crate) fn least_from(codes: &Codes, block: u8, start: u16) -> u32
         → result ≡ b.weight * (start + b.duration - 1 - b.due) }
     ensures limits { IsYard codes.now }
 {
-    let blocks = codes.yard().blocks();
-    let block = &blocks[usize::from(block)];
+    let block = block_at(codes, block);
     let end = u32::from(start) + u32::from(block.duration) - 1;
     u32::from(block.weight) * end.saturating_sub(u32::from(block.due))
 }

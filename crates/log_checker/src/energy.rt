@@ -9,7 +9,8 @@ ghost use Rattle.code_table.specs.Costs.{lesser};
 ghost use Rattle.log_checker.specs.Claims.{IsClaim, plan_of};
 ghost use Rattle.log_checker.specs.Windows.{IsLeastRaiseOf, IsRaiseIn};
 
-use crate::base::{base, block_at};
+use crate::base::base;
+use crate::block::block_at;
 use crate::claim::Claim;
 use crate::refute::fault;
 use crate::window::{Window, has_room, presses};

@@ -1,7 +1,7 @@
 //! Whether a record names blocks, codes and days that exist, beside a side that is a box.
 ghost use Rattle.std.specs.Prelude.{◌≡◌, ◌<◌, ◌≤◌, ◌↔◌, IsTrue};
 ghost use Rattle.plan_rule.specs.Choices.{blocks, count};
-ghost use Rattle.plan_rule.specs.Boxes.{IsBox, IsLiteral, LeavesFree};
+ghost use Rattle.plan_rule.specs.Boxes.{IsBox, IsLiteral, IsWhole, LeavesFree};
 ghost use Rattle.plan_rule.specs.Yards.{choices};
 ghost use Rattle.refutation_log.specs.Steps.{IsRange};
 ghost use Rattle.log_checker.specs.Forms.{HasForm};
@@ -10,7 +10,7 @@ use code_table::Codes;
 use plan_rule::{Literal, PlanBox, block_count};
 use refutation_log::Record;
 
-/// How many codes the block has; 0 past the last block.
+/// How many codes the block has.
 #[tactic(auto, using(plan_rule::proofs::CountLaws::counts))]
 pub(crate) fn count_of(codes: &Codes, block: u8) -> u32
     requires { block < blocks (choices codes.now) }
@@ -19,14 +19,15 @@ pub(crate) fn count_of(codes: &Codes, block: u8) -> u32
     codes.count(block)
 }
 
-/// Whether a literal of a block with this many codes is whole.
-fn is_whole(l: Literal, count: u32) -> bool
-    ensures { IsTrue result ↔ ((l.lo ≡ 0) × (l.hi ≡ count)) }
+/// Whether the literal has each code of its block.
+pub(crate) fn is_whole(codes: &Codes, l: Literal) -> bool
+    requires { l.block < blocks (choices codes.now) }
+    ensures { IsTrue result ↔ IsWhole (choices codes.now) l }
 {
-    l.lo == 0 && l.hi == count
+    l.lo == 0 && l.hi == count_of(codes, l.block)
 }
 
-/// Whether the literal has some codes of a block, and not all of them but where there is one.
+/// Whether the literal has some codes of a block, and each of them only where there is one.
 fn is_literal(codes: &Codes, l: Literal) -> bool
     ensures { IsTrue result ↔ IsLiteral (choices codes.now) l }
 {
@@ -34,7 +35,7 @@ fn is_literal(codes: &Codes, l: Literal) -> bool
         return false;
     }
     let count = count_of(codes, l.block);
-    if is_whole(l, count) && count != 1 {
+    if count != 1 && is_whole(codes, l) {
         return false;
     }
     l.lo < l.hi && l.hi <= count

@@ -4,6 +4,7 @@
 #![tactic(auto)]
 
 mod base;
+mod block;
 mod branch;
 mod cited;
 mod claim;

@@ -29,8 +29,8 @@ pub(crate) fn fixed_in(side: &PlanBox, block: u8) -> Option<u32>
     None
 }
 
-/// What a block costs at least in a box: the code to which the box fixes it, else the least of its codes. None where it
-/// has no code.
+/// What a block costs at least in a box: the cost of the code to which the box fixes it, else the least of its codes.
+/// None where it has no code.
 #[tactic(auto, using(plan_rule::proofs::CountLaws::counts))]
 pub(crate) fn least_in(codes: &Codes, side: &PlanBox, block: u8) -> Option<u32>
     requires side { IsBox (choices codes.now) side.now }

@@ -77,7 +77,7 @@ fn fault_of(
     }
 }
 
-/// Why the first record that is no step is none; None where each is a step.
+/// Why the first record that is no step is not one; None where each record is a step.
 pub(crate) fn first_fault(
     alloc: Global,
     codes: &Codes,

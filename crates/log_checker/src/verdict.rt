@@ -27,7 +27,8 @@ pub enum Refused {
     BoundLow(u64, u32),
     /// The last record does not refute every plan, or there is no record.
     NotEmpty,
-    /// This record names a block, a code or a day that does not exist, or its side is no box beside its branch.
+    /// This record names a block, a range of codes or a window that does not exist, or its side is no box or has a
+    /// literal on the branched block.
     BadForm(u64),
 }
 

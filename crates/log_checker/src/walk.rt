@@ -11,6 +11,7 @@ ghost use Rattle.log_checker.specs.FixedBlocks.{IsStanding, MeetsOne};
 ghost use Rattle.log_checker.specs.Spans.{InOne};
 ghost use Rattle.log_checker.specs.Walks.{ArePassed, IsFirstWithout, IsSettled};
 
+use crate::block::block_at;
 use crate::cut::Cut;
 use crate::fixed::{Fixed, meets_one};
 use crate::near::Near;
@@ -65,14 +66,13 @@ impl Walk {
     }
 }
 
-/// What a placement of the block costs: the weight for each day from the due day to its end.
+/// What a placement of the block costs: the weight for each day after the due day, up to its end.
 fn cost_of(codes: &Codes, block: u8, place: Placement) -> u32
     requires block { block < length codes.now.blocks }
     requires end { place.end < codes.now.days }
     ensures { (b : Block) → slice_get codes.now.blocks block ≡ Some b → result ≡ cost_at b place }
 {
-    let blocks = codes.yard().blocks();
-    let block = &blocks[block as usize];
+    let block = block_at(codes, block);
     u32::from(block.weight) * u32::from(place.end.saturating_sub(block.due))
 }
 

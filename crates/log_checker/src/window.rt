@@ -6,7 +6,7 @@ ghost use Rattle.plan_rule.specs.Bounds.{presses, demand, used};
 ghost use Rattle.plan_rule.specs.Yards.{choices};
 ghost use Rattle.log_checker.specs.Windows.{HasRoom, plate_room, used_by, work_in};
 
-use crate::base::block_at;
+use crate::block::block_at;
 use crate::rest::fixed_in;
 use code_table::Codes;
 use plan_rule::{PlanBox, block_count};

@@ -1,5 +1,4 @@
 use Rattle.std.proofs.Common.{◌-◌, Some, sym, ap, subst, arith}
-use Rattle.plan_rule.specs.Plans.{total}
 use Rattle.plan_rule.specs.Yards.{choices}
 use Rattle.log_checker.specs.declared.cut.Cut.TheVariants.{Every, Nothing, Above}
 use Rattle.log_checker.specs.Claims.{IsClaim, plan_of}

@@ -5,6 +5,9 @@ use Rattle.log_checker.proofs.LeastLaws.{least_of_codes}
 use Rattle.log_checker.proofs.WindowLaws.{raise_of}
 use Rattle.log_checker.proofs.energy.raise.Goals as goal
 
+pub block_at-data-requires : goal.block_at-data-requires
+block_at-data-requires c = block_exists _ _ c.requires.block
+
 pub least_cost-requires : goal.least_cost-requires
 least_cost-requires c = block_exists _ _ c.requires.block
 

@@ -1,8 +1,6 @@
-use Rattle.std.proofs.Common.{rules}
 use Rattle.plan_rule.specs.Yards.{choices}
 use Rattle.log_checker.specs.Claims.{plan_of}
 use Rattle.log_checker.proofs.StepLaws.{forms_all, none_of}
-use Rattle.log_checker.proofs.VerdictLaws.{fault_refuses}
 use Rattle.log_checker.proofs.judge.verdict_of.Goals as goal
 
 pub ends_empty-requires : goal.ends_empty-requires

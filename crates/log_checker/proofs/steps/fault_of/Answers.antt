@@ -1,4 +1,4 @@
-use Rattle.std.proofs.Common.{sym, subst, ◌∙◌, refl, rules, Some}
+use Rattle.std.proofs.Common.{sym, subst, refl, rules}
 use Rattle.plan_rule.specs.Yards.{choices}
 use Rattle.log_checker.specs.Claims.{plan_of}
 use Rattle.log_checker.specs.Forms.{HasForm}

@@ -1,4 +1,4 @@
-use Rattle.std.proofs.Common.{rules, arith, ℕ, ◌≡◌, sym, refl, ap, Some, subst, length, None}
+use Rattle.std.proofs.Common.{arith, ◌≡◌, refl, Some, subst, length}
 use Rattle.std.specs.Prelude.{slice_get, take, MatchOption}
 use Rattle.std.proofs.lemmas.Option.{slice_get_read}
 use Rattle.plan_rule.specs.Yards.{choices}

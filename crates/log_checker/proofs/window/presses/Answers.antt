@@ -1,8 +1,12 @@
 use Rattle.std.proofs.Common.{sym, ap, ◌∙◌}
 use Rattle.std.specs.Prelude.{nat_le, ◌&&◌}
 use Rattle.std.proofs.lemmas.Bool.{and_left, le-leb, lt-leb}
+use Rattle.plan_rule.proofs.CountLaws.{block_exists}
 use Rattle.log_checker.proofs.WindowLaws.{none_of, presses_free}
 use Rattle.log_checker.proofs.window.presses.Goals as goal
+
+pub block_at-data-requires : goal.block_at-data-requires
+block_at-data-requires c = block_exists _ _ c.requires
 
 pub returns-then-window-data : goal.returns-then-window-data
 returns-then-window-data c =

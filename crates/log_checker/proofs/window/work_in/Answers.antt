@@ -3,6 +3,9 @@ use Rattle.plan_rule.proofs.CountLaws.{block_exists}
 use Rattle.log_checker.proofs.WindowLaws.{work_pressing}
 use Rattle.log_checker.proofs.window.work_in.Goals as goal
 
+pub block_at-data-requires : goal.block_at-data-requires
+block_at-data-requires c = block_exists _ _ c.requires
+
 pub cells-requires : goal.cells-requires
 cells-requires c = block_exists _ _ c.requires
 
