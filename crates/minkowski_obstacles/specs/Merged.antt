@@ -45,4 +45,5 @@ IsKept kept next now =
 abbrev pub IsNext : List Side → ℕ → List Side → ℕ → Type 0
 IsNext one i other j =
     (i < length one)
-    × ((d : Side) → j < length other → comes_before (slice_index_or other j d).along (slice_index_or one i d).along ≡ false)
+    × ((d : Side) → j < length other
+    → comes_before (slice_index_or other j d).along (slice_index_or one i d).along ≡ false)

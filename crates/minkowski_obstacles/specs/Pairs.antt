@@ -17,6 +17,7 @@ abbrev pub Overlap : Pair → Point → Type 0
 Overlap pair w =
     (s : Spot) × (0 < s.n) × IsTrue (is_inside pair.fixed origin s) × IsTrue (is_inside pair.moving w s)
 
+-- the offset that has these coordinates
 abbrev pub offset : ℤ → ℤ → Point
 offset x y = record { x = x; y = y }
 

@@ -12,20 +12,27 @@ use Rattle.minkowski_obstacles.specs.declared.side.Side.{Side}
 abbrev pub IsSmall : Side → Type 0
 IsSmall s = IsWithin 4000 s.at × IsWithin 4000 s.along
 
--- edges and sides in the words of the lemmas
+-- an edge in the words of the lemmas
 abbrev pub line : Edge → Line
 line e = record { from = e.from; to = e.to }
 
+-- a side in the words of the lemmas
 abbrev pub wall : Side → Wall
 wall s = record { at = s.at; along = s.along }
 
 -- the side of an edge of the fixed shape, through the point that the vertex m of the moving one gives
 abbrev pub fixed_side : Edge → Point → Side
-fixed_side e m = record { at = record { x = e.from.x -ℤ m.x; y = e.from.y -ℤ m.y }; along = record { x = e.to.x -ℤ e.from.x; y = e.to.y -ℤ e.from.y } }
+fixed_side e m = record {
+  at = record { x = e.from.x -ℤ m.x; y = e.from.y -ℤ m.y };
+  along = record { x = e.to.x -ℤ e.from.x; y = e.to.y -ℤ e.from.y };
+}
 
 -- the side of an edge of the mirrored moving shape, through the point that the vertex u of the fixed one gives
 abbrev pub moving_side : Edge → Point → Side
-moving_side f u = record { at = record { x = u.x -ℤ f.from.x; y = u.y -ℤ f.from.y }; along = record { x = f.from.x -ℤ f.to.x; y = f.from.y -ℤ f.to.y } }
+moving_side f u = record {
+  at = record { x = u.x -ℤ f.from.x; y = u.y -ℤ f.from.y };
+  along = record { x = f.from.x -ℤ f.to.x; y = f.from.y -ℤ f.to.y };
+}
 
 -- above 0 where the offset is strictly on the inner side
 abbrev pub value : Side → Point → ℤ
@@ -33,7 +40,9 @@ value s w = s.along.x *ℤ (w.y -ℤ s.at.y) -ℤ s.along.y *ℤ (w.x -ℤ s.at.
 
 -- two sides have one direction
 abbrev pub OneWay : Side → Side → Type 0
-OneWay a b = (a.along.x *ℤ b.along.y -ℤ a.along.y *ℤ b.along.x ≡ pos 0) × (pos 0 <ℤ (a.along.x *ℤ b.along.x +ℤ a.along.y *ℤ b.along.y))
+OneWay a b =
+    (a.along.x *ℤ b.along.y -ℤ a.along.y *ℤ b.along.x ≡ pos 0)
+    × (pos 0 <ℤ (a.along.x *ℤ b.along.x +ℤ a.along.y *ℤ b.along.y))
 
 -- each of the sides is one of `all`, and each of `all` has the direction of one of the sides
 pub record AreJoined (all sides : List Side) : Type 0 where

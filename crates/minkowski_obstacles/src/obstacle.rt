@@ -69,7 +69,8 @@ fn bound(s: &Side, y: i32) -> i64
 /// The x from -2000 to 2000 for which the offset (x, y) is strictly on the inner side of each of the sides.
 fn row_within(sides: &[Side], y: i32) -> Stretch
     requires { All IsSmall sides.now }
-    ensures { (x : ℤ) → Holds result x ↔ (((negsuc 1999 ≤ℤ x) × (x ≤ℤ pos 2000)) × All (λ s. pos 0 <ℤ value s (offset x y)) sides.now) }
+    ensures { (x : ℤ) → Holds result x
+        ↔ (((negsuc 1999 ≤ℤ x) × (x ≤ℤ pos 2000)) × All (λ s. pos 0 <ℤ value s (offset x y)) sides.now) }
 {
     let mut row = Stretch {
         low: -2000,
@@ -82,8 +83,8 @@ fn row_within(sides: &[Side], y: i32) -> Stretch
 }
 
 impl Obstacle {
-    /// The obstacle of a fixed footprint for a moving one. Costs in the order of the product of the numbers of vertices:
-    /// two passes of that size, two sorts of at most 16 sides, and a pass that merges them.
+    /// The obstacle of a fixed footprint for a moving one. Costs in the order of the product of the numbers of
+    /// vertices: two passes of that size, two sorts of at most 16 sides, and a pass that merges them.
     pub fn of(fixed: &Shape, moving: &Shape) -> Obstacle
         ensures { result ≡ record { fixed = fixed.now; moving = moving.now } }
     {

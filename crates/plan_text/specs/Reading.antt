@@ -60,7 +60,7 @@ planned yard pieces = do
   last ← total_of (length yard.blocks + 2) (total (choices yard) rows.0) rows.1
   Ok rows.0
 
--- by the first line
+-- what is read by the first line: none, a plan, or neither
 abbrev pub headed : PlainYard → List (List ℕ) → Result (Option (List ℕ)) PlanFault
 headed yard (first ∷ next ∷ more) =
     if bytes_eq first (codes "no plan") then (closed (next ∷ more) >>= λ last. Ok None)

@@ -4,7 +4,7 @@ ghost use Rattle.std.specs.Prelude.{◌≡◌};
 use shape_exact::Name;
 
 /// The name as text.
-pub fn text_of(name: &Name) -> &str
+pub(crate) fn text_of(name: &Name) -> &str
     ensures { result.now ≡ name.now }
 {
     match str::from_utf8(name.bytes()) {

@@ -10,7 +10,7 @@ use std::alloc::AllocError;
 
 /// Writes the line of a block that stands at the placement, on a plate of this name.
 #[tactic(auto, unfolding(crate::specs::Texts::block_line))]
-pub fn put_row(
+pub(crate) fn put_row(
     out: &mut String,
     name: &Name,
     due: u16,
