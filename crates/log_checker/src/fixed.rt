@@ -1,15 +1,13 @@
 //! The blocks that a side fixes to one code each.
 ghost use Rattle.std.specs.Prelude.{◌≡◌, ◌<◌, ◌≤◌, ◌↔◌, All, IsTrue, length};
-ghost use Rattle.shape_exact.specs.Separation.{IsWithin};
 ghost use Rattle.plan_rule.specs.Boxes.{IsBox};
-ghost use Rattle.plan_rule.specs.Clashes.{MayMeet, place_of};
 ghost use Rattle.plan_rule.specs.Yards.{choices};
 ghost use Rattle.log_checker.specs.FixedBlocks.{AreFixed, IsStanding, Meets, MeetsOne};
 
 use arrayvec::ArrayVec;
 use code_table::{Codes, Placement};
-use plan_rule::PlanBox;
-use shape_exact::{Point, apart};
+use plan_rule::{PlanBox, corner, may_meet};
+use shape_exact::apart;
 
 /// A block that a side fixes to one code, and the placement of that code.
 #[derive(Clone, Copy)]
@@ -51,26 +49,6 @@ pub(crate) fn fixed_of(codes: &Codes, side: &PlanBox) -> ArrayVec<Fixed, 32>
         }
     }
     list
-}
-
-/// The point to which a placement shifts its footprint.
-fn corner(place: Placement) -> Point
-    requires x { place.x ≤ 400 }
-    requires y { place.y ≤ 400 }
-    ensures value { result ≡ place_of place }
-    ensures within { IsWithin 10000 result }
-{
-    Point {
-        x: i32::from(place.x),
-        y: i32::from(place.y),
-    }
-}
-
-/// Whether two placements are on one plate and their spans share a day.
-pub(crate) fn may_meet(one: Placement, two: Placement) -> bool
-    ensures { IsTrue result ↔ MayMeet one two }
-{
-    one.plate == two.plate && one.start <= two.end && two.start <= one.end
 }
 
 /// Whether a fixed block meets another block at a placement.

@@ -2,9 +2,10 @@
 ghost use Rattle.std.specs.Prelude.{◌≡◌, ◌≤◌, ◌↔◌, IsTrue, length};
 ghost use Rattle.log_checker.specs.FixedBlocks.{HaveOneSpan, IsNear};
 
-use crate::fixed::{Fixed, may_meet};
+use crate::fixed::Fixed;
 use arrayvec::ArrayVec;
 use code_table::Placement;
+use plan_rule::may_meet;
 
 /// The fixed blocks near a placement: those that are on its plate on some of its days.
 #[derive(Drop)]

@@ -11,8 +11,8 @@ use crate::{Plan, block_count};
 use code_table::{Codes, Placement};
 use shape_exact::{Point, apart};
 
-/// The point to which a placement shifts its footprint.
-fn corner(placement: Placement) -> Point
+/// The point, in plate units, to which a placement shifts its footprint.
+pub fn corner(placement: Placement) -> Point
     requires { (placement.x ≤ 10000) × (placement.y ≤ 10000) }
     ensures value { result ≡ place_of placement }
     ensures within { IsWithin 10000 result }
@@ -23,8 +23,8 @@ fn corner(placement: Placement) -> Point
     }
 }
 
-/// Whether two placements are on one plate and their spans share a day.
-fn may_meet(one: Placement, two: Placement) -> bool
+/// Whether two placements are on one plate and their spans share a day. Where they are not, no two blocks clash there.
+pub fn may_meet(one: Placement, two: Placement) -> bool
     ensures { IsTrue result ↔ MayMeet one two }
 {
     one.plate == two.plate && one.start <= two.end && two.start <= one.end

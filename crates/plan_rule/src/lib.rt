@@ -14,7 +14,7 @@ mod plan_box;
 mod region;
 
 pub use blocks::block_count;
-pub use clashes::{clash, first_clash};
+pub use clashes::{clash, corner, first_clash, may_meet};
 pub use job::{Job, halves};
 pub use laws::{
     base_is_sound, energy_is_sound, fit_is_sound, keys_are_small, keys_follow_order,
