@@ -5,7 +5,7 @@ use Rattle.std.proofs.lemmas.Bool.{cases_Bool, cases_lt}
 use Rattle.std.proofs.lemmas.List.{append-nil, nil_from_length}
 use Rattle.std.proofs.lemmas.Nat.{mul-le}
 use Rattle.std.proofs.lemmas.Option.{slice_get_within, none-some}
-use Rattle.shape_exact.specs.Yards.{PlainYard, IsYard}
+use Rattle.shape_exact.specs.Yards.{PlainYard, IsYard, IsBlock}
 use Rattle.shape_exact.specs.declared.block.Block.{Block}
 use Rattle.shape_exact.specs.declared.plate.Plate.{Plate}
 use Rattle.shape_exact.specs.Shapes.{turned, reach_x, reach_y}
@@ -13,7 +13,7 @@ use Rattle.shape_exact.specs.Each.{each}
 use Rattle.shape_exact.proofs.EachLaws.{each-suc, get-append_cases}
 use Rattle.code_table.specs.declared.placement.Placement.{Placement}
 use Rattle.code_table.specs.Costs.{IsLeastCost, lesser, IsAtMostEachCost, IsCostOfSome}
-use Rattle.code_table.specs.Placements.{placed, placements, placements_of, cost_at, cost_of, own_cost}
+use Rattle.code_table.specs.Placements.{placed, placements, placements_of, cost_at, cost_of, cost_on, own_cost}
 use Rattle.code_table.specs.Stands.{stands, nth_stand, stand_start, stand_plate, stand_turn, EndsOn}
 use Rattle.code_table.specs.Tables.{IsSums}
 use Rattle.code_table.proofs.FlatLaws.{placements-stands}
@@ -80,7 +80,7 @@ end_in_grid block plate start p turn end k x at =
 -- so they share their cost
 pub least_stand : (yard : PlainYard) (block : Block) (sums : List ℕ) (k start p turn end cost : ℕ) → IsSums yard block sums → k < stands yard
     → (get_or sums k 0 ≡ get_or sums (k + 1) 0 → ⊥) → start ≡ stand_start yard k → p ≡ stand_plate yard k → turn ≡ stand_turn yard k
-    → EndsOn yard block start p end → cost ≡ block.weight * (end - block.due) → IsLeastCost block (nth_stand yard block k) (Some cost)
+    → EndsOn yard block start p end → cost ≡ cost_on block end → IsLeastCost block (nth_stand yard block k) (Some cost)
 least_stand yard block sums k start p turn end cost s l steps a b c e is =
     let here = s.counted k (omega arith) in let next = s.counted (k + 1) (omega arith) in let more = sum_to-more yard block k in
     let stand = stand_of yard block k start p turn a b c in
@@ -90,7 +90,7 @@ least_stand yard block sums k start p turn end cost s l steps a b c e is =
           stand ∙ stand-allowed yard block start p turn e.plate end e.released e.plate_is e.end_is allowed in
           let long = ap length grid in
           let one_cost : (j : ℕ) (x : Placement) → slice_get (stand_grid block e.plate start end p turn) j ≡ Some x → cost_at block x ≡ cost =
-          λ j x at. ap (λ e. block.weight * (e - block.due)) (end_in_grid block e.plate start p turn end j x at) ∙ sym is in
+          λ j x at. ap (cost_on block) (end_in_grid block e.plate start p turn end j x at) ∙ sym is in
           let (x, at) = some_at (stand_grid block e.plate start end p turn) 0 (elim (cases_lt 0 (length (nth_stand yard block k))) [
             | inl some ↦ omega arith
             | inr none ↦ absurd (steps (omega arith))
@@ -132,6 +132,28 @@ least_attained yard b block (Some c) at l =
     let within = slice_get_within (placements_of yard block) code p is in
     (code, (let e = ap length (placements-of yard b block at) in omega arith), cost_of_code yard b code block p at is ∙ cost)
 
+-- a day late or a day early costs at most 1,000, and no day is both
+pub cost_few : (block : Block) (end : ℕ) → IsBlock block → end < 400 → cost_on block end ≤ 400000
+cost_few block end is l =
+    let weight = is.weight in let due = is.due in let low = is.early in
+    elim (cases_lt end block.due) [
+      | inl before ↦
+          let m = mul-le block.early (block.due - end) 1000 400 low (omega arith) in
+          let none : block.weight * (end - block.due) ≡ 0 = ap (λ n. block.weight * n) (let e : end - block.due ≡ 0 = omega arith in e) ∙ omega arith in
+          omega arith
+      | inr after ↦
+          let m = mul-le block.weight (end - block.due) 1000 400 weight (omega arith) in
+          let none : block.early * (block.due - end) ≡ 0 = ap (λ n. block.early * n) (let e : block.due - end ≡ 0 = omega arith in e) ∙ omega arith in
+          omega arith
+    ]
+
+-- the cost before the due day, and from it on
+pub cost_before : (block : Block) (end : ℕ) → end < block.due → block.early * (block.due - end) ≡ cost_on block end
+cost_before block end l = let z = ap (λ n. block.weight * n) (let e : end - block.due ≡ 0 = omega arith in e) in omega (arith, z)
+
+pub cost_after : (block : Block) (end : ℕ) → block.due ≤ end → block.weight * (end - block.due) ≡ cost_on block end
+cost_after block end l = let z = ap (λ n. block.early * n) (let e : block.due - end ≡ 0 = omega arith in e) in omega (arith, z)
+
 -- no cost is above 400,000
 pub least_few : (yard : PlainYard) (b : ℕ) (block : Block) (o : Option ℕ) → IsYard yard → slice_get yard.blocks b ≡ Some block
     → IsLeastCost block (placements_of yard block) o → IfSome o (λ c. c ≤ 400000)
@@ -141,5 +163,5 @@ least_few yard b block (Some c) y at l =
     let limits = block_limits yard b block y at in
     let range = in_range yard block p y limits (placed-facts yard block code p is) in
     let end = range.end in let days = y.days in let weight = limits.weight in
-    let m = mul-le block.weight (p.end - block.due) 1000 400 weight (omega arith) in
+    let m = cost_few block p.end limits (omega arith) in
     omega arith

@@ -7,6 +7,7 @@ pub mod StandLaws
 pub mod ReadLaws
 pub mod TableLaws
 pub mod SpotLaws
+pub mod StretchLaws
 pub mod CostLaws
 pub mod OrderLaws
 pub mod EndLaws

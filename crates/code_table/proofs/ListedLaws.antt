@@ -43,7 +43,7 @@ listed-step pitch long size i at f x pos step fits is =
     (listed-when (nat_le (i * pitch + long) size) (f (i * pitch)) x (le-leb (i * pitch + long) size (omega arith)) here)
 
 -- a row and a column that fit are in the grid
-listed-grid : (plate : Plate) (high long j i y x : ℕ) (f : ℕ → ℕ → Placement) → 0 < plate.pitch → y ≡ j * plate.pitch → x ≡ i * plate.pitch
+pub listed-grid : (plate : Plate) (high long j i y x : ℕ) (f : ℕ → ℕ → Placement) → 0 < plate.pitch → y ≡ j * plate.pitch → x ≡ i * plate.pitch
     → y + high ≤ plate.height → x + long ≤ plate.width → IsListed (f y x) (grid_of plate high long f)
 listed-grid plate high long j i y x f pos row column high_fits long_fits =
     listed-step plate.pitch high plate.height j y (λ y. row_of plate long (f y)) (f y x) pos row high_fits

@@ -15,13 +15,13 @@ abbrev square : List Point
 square = at 0 0 ∷ at 2 0 ∷ at 2 2 ∷ at 0 2 ∷ []
 
 abbrev block : Block
-block = record { name = 65 ∷ []; shape = square; turns = true ∷ false ∷ false ∷ false ∷ []; duration = 2; release = 0; due = 1; weight = 1 }
+block = record { name = 65 ∷ []; shape = square; turns = true ∷ false ∷ false ∷ false ∷ []; duration = 2; release = 0; due = 1; weight = 1; early = 0 }
 
 abbrev plate : Plate
 plate = record { name = 80 ∷ []; width = 4; height = 3; pitch = 1; closed = [] }
 
 abbrev y1 : PlainYard
-y1 = record { days = 10; plates = plate ∷ []; blocks = block ∷ [] }
+y1 = record { days = 10; plates = plate ∷ []; blocks = block ∷ []; fixed = [] }
 
 row_1 : length (placements y1 0) ≡ 54
 row_1 = refl

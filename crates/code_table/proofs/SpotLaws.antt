@@ -11,7 +11,7 @@ use Rattle.shape_exact.specs.declared.point.Point.{Point}
 use Rattle.shape_exact.specs.Shapes.{turned, reach_x, reach_y}
 use Rattle.code_table.specs.declared.placement.Placement.{Placement}
 use Rattle.code_table.specs.declared.spot.Spot.{Spot}
-use Rattle.code_table.specs.Placements.{placed, placements_of, placements, own_cost, cost_of, IsPlacement}
+use Rattle.code_table.specs.Placements.{placed, placements_of, placements, own_cost, cost_of, cost_on, IsPlacement}
 use Rattle.plate_calendar.proofs.DayLaws.{end_law}
 use Rattle.code_table.specs.Grids.{rows, columns}
 use Rattle.code_table.specs.Stands.{stands, sum_to, stand_at, nth_stand, stand_start, stand_plate, stand_turn, EndsOn}
@@ -178,7 +178,7 @@ spot_plate yard block code s e = slice_get_within yard.plates s.plate e.plate e.
 
 -- what the code of a spot costs
 pub spot_cost : (yard : PlainYard) (b code : ℕ) (block : Block) (s : Spot) → IsYard yard → slice_get yard.blocks b ≡ Some block
-    → IsSpot yard block code s → own_cost yard b code ≡ block.weight * (s.end - block.due)
+    → IsSpot yard block code s → own_cost yard b code ≡ cost_on block s.end
 spot_cost yard b code block s y at e =
     let own = places_itself yard block code s y (block_limits yard b block y at) e in
     ap (λ o. cost_of o (slice_get (placements yard b) code)) at

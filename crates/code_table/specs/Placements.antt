@@ -45,9 +45,13 @@ placements_of yard block =
 abbrev pub placements : PlainYard → ℕ → List Placement
 placements yard b = for_some (slice_get yard.blocks b) (placements_of yard)
 
--- what a placement costs: the days from the due day to its end, times the weight
+-- what a block costs that ends on a day: the weight for each day past the due day, the early cost for each day before it
+abbrev pub cost_on : Block → ℕ → ℕ
+cost_on block end = block.weight * (end - block.due) + block.early * (block.due - end)
+
+-- what a placement costs
 abbrev pub cost_at : Block → Placement → ℕ
-cost_at block p = block.weight * (p.end - block.due)
+cost_at block p = cost_on block p.end
 
 abbrev pub cost_of : Option Block → Option Placement → ℕ
 cost_of None p = 0

@@ -11,12 +11,15 @@ ghost use Rattle.code_table.specs.Orders.{AreAscending, EndsAscend};
 ghost use Rattle.code_table.specs.Costs.{IsAtMostEachCost, IsCostOfSome};
 ghost use Rattle.code_table.specs.Placements.{placements, own_cost, IsPlacement};
 ghost use Rattle.code_table.specs.Spots.{IsSpot};
+ghost use Rattle.code_table.specs.Stretches.{HasEach, IsStretch, nth_place};
 ghost use Rattle.code_table.specs.Tables.{IsTable};
 
 use crate::code::code_of;
+use crate::cost::cost_on;
 use crate::placement::Placement;
 use crate::spot::{Spot, place_at, spot_of};
 use crate::stand::calendars_of;
+use crate::stretch::{Stretch, stretch_of};
 use crate::table::{Table, tables_of};
 use arrayvec::ArrayVec;
 use plate_calendar::Calendar;
@@ -158,6 +161,40 @@ impl Codes {
         place_at(plate, self.shape(block, spot.turn), spot)
     }
 
+    /// The codes that share their start, their plate and their turn with a code of the block, and so their end and their
+    /// own cost.
+    pub fn stretch(&self, block: u8, code: u32) -> Stretch
+        requires block { block < length self.now.blocks }
+        requires code { code < length (placements self.now block) }
+        ensures stretch { IsStretch (placements self.now block) result }
+        ensures each { HasEach (placements self.now block) result }
+        ensures from { result.lo ≤ code }
+        ensures to { code < result.hi }
+        ensures end { result.place.end < self.now.days }
+    {
+        let yard = self.yard();
+        let table = self.table(block);
+        let blocks = yard.blocks();
+        let block = &blocks[block as usize];
+        stretch_of(yard, self.calendars.as_slice(), block, table, code)
+    }
+
+    /// The placement of a code of a stretch, as `place` gives it, without a search.
+    pub fn place_in(&self, block: u8, stretch: Stretch, code: u32) -> Placement
+        requires block { block < length self.now.blocks }
+        requires stretch { IsStretch (placements self.now block) stretch }
+        requires from { stretch.lo ≤ code }
+        requires to { code < stretch.hi }
+        ensures value { slice_get (placements self.now block) code ≡ Some result }
+        ensures place { result ≡ nth_place stretch code }
+        ensures turn { result.turn < 4 }
+        ensures x { result.x ≤ 400 }
+        ensures y { result.y ≤ 400 }
+    {
+        let _yard = self.yard();
+        stretch.nth(code)
+    }
+
     /// The code of a placement. None where it is no placement of the block.
     pub fn code(&self, block: u8, placement: &Placement) -> Option<u32>
         requires { block < length self.now.blocks }
@@ -190,7 +227,8 @@ impl Codes {
         let _yard = self.yard();
     }
 
-    /// What a code costs: the weight for each day from the due day to its end.
+    /// What a code costs: the weight for each day from the due day to its end, or the early cost for each day from its end
+    /// to the due day.
     pub fn own_cost(&self, block: u8, code: u32) -> u32
         requires block { block < length self.now.blocks }
         requires code { code < length (placements self.now block) }
@@ -200,7 +238,7 @@ impl Codes {
         let end = self.spot(block, code).end;
         let blocks = self.yard().blocks();
         let block = &blocks[block as usize];
-        block.weight as u32 * end.saturating_sub(block.due) as u32
+        cost_on(block, end)
     }
 
     /// The least cost of a block's codes. None where it has no code.

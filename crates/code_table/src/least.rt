@@ -7,6 +7,7 @@ ghost use Rattle.code_table.specs.Placements.{placements_of};
 ghost use Rattle.code_table.specs.Stands.{stands, nth_stand};
 ghost use Rattle.code_table.specs.Tables.{IsSums};
 
+use crate::cost::cost_on;
 use crate::count::stand_end;
 use crate::stand::{nth_stand, stands};
 use plate_calendar::Calendar;
@@ -44,7 +45,7 @@ fn stand_cost(
     let Some(end) = stand_end(yard, calendars, block, at) else {
         return None;
     };
-    Some(block.weight as u32 * end.saturating_sub(block.due) as u32)
+    Some(cost_on(block, end))
 }
 
 /// The least cost of the block's placements. None where it has none.

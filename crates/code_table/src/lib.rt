@@ -6,6 +6,7 @@
 
 mod code;
 mod codes;
+mod cost;
 mod count;
 mod grid;
 mod least;
@@ -13,10 +14,13 @@ mod placement;
 mod search;
 mod spot;
 mod stand;
+mod stretch;
 mod table;
 #[cfg(test)]
 mod tests;
 
 pub use codes::Codes;
+pub use cost::cost_on;
 pub use count::placement_count;
 pub use placement::Placement;
+pub use stretch::Stretch;

@@ -10,11 +10,14 @@ pub(crate) fn multiples_below(x: u16, pitch: u16) -> u16
     ensures below { (k : ℕ) → (k < result) ↔ (k * pitch < x) }
     ensures bound { result ≤ x }
 {
+    if pitch == 1 {
+        return x;
+    }
     x.div_ceil(pitch)
 }
 
 /// How many multiples k of the pitch, 0 among them, have k * pitch + reach at most `size`.
-pub(crate) fn steps(size: u16, reach: u16, pitch: u16) -> u16
+pub fn steps(size: u16, reach: u16, pitch: u16) -> u16
     requires pitch { 1 ≤ pitch }
     requires size { size ≤ 400 }
     ensures within { (k : ℕ) → (k < result) ↔ (k * pitch + reach ≤ size) }
@@ -35,7 +38,7 @@ fn clamped(v: i32) -> u16
 }
 
 /// The columns whose x lies from `low` to `high`; None where there is none.
-pub(crate) fn columns_between(low: i32, high: i32, pitch: u16, columns: u16) -> Option<Stretch>
+pub fn columns_between(low: i32, high: i32, pitch: u16, columns: u16) -> Option<Stretch>
     requires pitch { 1 ≤ pitch }
     requires low { low ≤ℤ pos 3000 }
     requires high { high ≤ℤ pos 3000 }

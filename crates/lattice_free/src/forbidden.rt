@@ -12,7 +12,13 @@ use shape_exact::Point;
 use std::alloc::AllocError;
 
 /// The columns of a row at which the moving shape overlaps the fixed one, which stands at `at`; None where there is none.
-fn stretch_of(obstacle: &Obstacle, at: Point, row: u16, pitch: u16, columns: u16) -> Option<Stretch>
+pub fn stretch_of(
+    obstacle: &Obstacle,
+    at: Point,
+    row: u16,
+    pitch: u16,
+    columns: u16,
+) -> Option<Stretch>
     requires at { IsAt at }
     requires pitch { IsPitch pitch }
     requires row { row ≤ 401 }

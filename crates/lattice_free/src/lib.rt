@@ -12,8 +12,11 @@ mod free_rows;
 mod run;
 mod stretch;
 
+pub use columns::{columns_between, steps};
+pub use forbidden::stretch_of;
 pub use free_points::FreePoints;
 pub use free_rows::FreeRows;
+pub use stretch::Stretch;
 
 #[cfg(test)]
 mod tests;

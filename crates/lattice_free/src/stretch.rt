@@ -2,7 +2,7 @@
 
 /// The columns `from..to` of a row. There is at least one.
 #[derive(Clone, Copy, Default)]
-pub(crate) struct Stretch {
-    pub(crate) from: u16,
-    pub(crate) to: u16,
+pub struct Stretch {
+    pub from: u16,
+    pub to: u16,
 }

@@ -6,7 +6,7 @@ use Rattle.std.proofs.lemmas.Bool.{cases_Bool, cases_order, lt-ltb, le-ltb, eq-e
 use Rattle.std.proofs.lemmas.Option.{none-some, same_Some}
 use Rattle.std.proofs.lemmas.List.Elements.{All-contains, All-contains_itself, All-filter, All-cons, All-nil, All-head, All-tail, All-weaker, filter_passes, Contains-append_left, Contains-append_right, Contains-append_cases}
 use Rattle.plan_rule.specs.declared.literal.Literal.{Literal}
-use Rattle.plan_rule.specs.Boxes.{LeavesFree, fixed_code, exact, with_literal}
+use Rattle.plan_rule.specs.Boxes.{LeavesFree, exact_code, exact, with_literal}
 use Rattle.log_checker.specs.Ties.{IsAbove}
 
 -- the code of a literal of one code
@@ -14,44 +14,44 @@ abbrev code_alone : Literal → Option ℕ
 code_alone l = if l.hi == l.lo + 1 then Some l.lo else None
 
 -- literals on other blocks say nothing of a block
-passed : (xs ys : List Literal) (a : ℕ) → LeavesFree xs a → fixed_code (xs ++ ys) a ≡ fixed_code ys a
+passed : (xs ys : List Literal) (a : ℕ) → LeavesFree xs a → exact_code (xs ++ ys) a ≡ exact_code ys a
 passed [] ys a free = refl
 passed (l ∷ xs) ys a free =
-    cond-false (l.block == a) (code_alone l) (fixed_code (xs ++ ys) a) (ne_eqb l.block a (All-head (λ l. l.block ≢ a) l xs free))
+    cond-false (l.block == a) (code_alone l) (exact_code (xs ++ ys) a) (ne_eqb l.block a (All-head (λ l. l.block ≢ a) l xs free))
     ∙ passed xs ys a (All-tail (λ l. l.block ≢ a) l xs free)
 
-pub nothing_fixed : (xs : List Literal) (a : ℕ) → LeavesFree xs a → fixed_code xs a ≡ None
-nothing_fixed [] a free = refl
-nothing_fixed (l ∷ xs) a free =
-    cond-false (l.block == a) (code_alone l) (fixed_code xs a) (ne_eqb l.block a (All-head (λ l. l.block ≢ a) l xs free))
-    ∙ nothing_fixed xs a (All-tail (λ l. l.block ≢ a) l xs free)
+pub nothing_exact : (xs : List Literal) (a : ℕ) → LeavesFree xs a → exact_code xs a ≡ None
+nothing_exact [] a free = refl
+nothing_exact (l ∷ xs) a free =
+    cond-false (l.block == a) (code_alone l) (exact_code xs a) (ne_eqb l.block a (All-head (λ l. l.block ≢ a) l xs free))
+    ∙ nothing_exact xs a (All-tail (λ l. l.block ≢ a) l xs free)
 
-in_front : (xs ys : List Literal) (a : ℕ) → LeavesFree ys a → fixed_code (xs ++ ys) a ≡ fixed_code xs a
-in_front [] ys a free = nothing_fixed ys a free
+in_front : (xs ys : List Literal) (a : ℕ) → LeavesFree ys a → exact_code (xs ++ ys) a ≡ exact_code xs a
+in_front [] ys a free = nothing_exact ys a free
 in_front (l ∷ xs) ys a free = ap (λ o. if l.block == a then code_alone l else o) (in_front xs ys a free)
 
--- the first literal on a block says whether it is fixed
-pub fixed_first : (box : List Literal) (i b : ℕ) (l : Literal) → AllWithin (λ m. m.block ≢ b) box 0 i → slice_get box i ≡ Some l → l.block ≡ b
-    → fixed_code box b ≡ (if l.hi == l.lo + 1 then Some l.lo else None)
-fixed_first [] i b l none at on = absurd (none-some l at)
-fixed_first (m ∷ box) zero b l none at on =
+-- the first literal on a block says whether it is exact
+pub exact_first : (box : List Literal) (i b : ℕ) (l : Literal) → AllWithin (λ m. m.block ≢ b) box 0 i → slice_get box i ≡ Some l → l.block ≡ b
+    → exact_code box b ≡ (if l.hi == l.lo + 1 then Some l.lo else None)
+exact_first [] i b l none at on = absurd (none-some l at)
+exact_first (m ∷ box) zero b l none at on =
     let same : m ≡ l = same_Some m l at in
-    cond-true (m.block == b) (code_alone m) (fixed_code box b) (eq-eqb m.block b (ap (λ (x : Literal). x.block) same ∙ on)) ∙ ap code_alone same
-fixed_first (m ∷ box) (suc i) b l none at on =
-    cond-false (m.block == b) (code_alone m) (fixed_code box b) (ne_eqb m.block b (none 0 m (omega arith) (omega arith)))
-    ∙ fixed_first box i b l (λ k d low high. none (suc k) d (omega arith) (omega arith)) at on
+    cond-true (m.block == b) (code_alone m) (exact_code box b) (eq-eqb m.block b (ap (λ (x : Literal). x.block) same ∙ on)) ∙ ap code_alone same
+exact_first (m ∷ box) (suc i) b l none at on =
+    cond-false (m.block == b) (code_alone m) (exact_code box b) (ne_eqb m.block b (none 0 m (omega arith) (omega arith)))
+    ∙ exact_first box i b l (λ k d low high. none (suc k) d (omega arith) (omega arith)) at on
 
--- a filter that keeps the literals on a block keeps what is fixed there
-kept : (test : ℕ → Bool) (box : List Literal) (a : ℕ) → test a ≡ true → fixed_code (filter (λ m. test m.block) box) a ≡ fixed_code box a
+-- a filter that keeps the literals on a block keeps what is exact there
+kept : (test : ℕ → Bool) (box : List Literal) (a : ℕ) → test a ≡ true → exact_code (filter (λ m. test m.block) box) a ≡ exact_code box a
 kept test [] a t = refl
 kept test (m ∷ box) a t = elim (cases_Bool (test m.block)) [
   | inl stays ↦
-      ap (λ xs. fixed_code xs a) (cond-true (test m.block) (m ∷ filter (λ m. test m.block) box) (filter (λ m. test m.block) box) stays)
+      ap (λ xs. exact_code xs a) (cond-true (test m.block) (m ∷ filter (λ m. test m.block) box) (filter (λ m. test m.block) box) stays)
       ∙ ap (λ o. if m.block == a then code_alone m else o) (kept test box a t)
   | inr goes ↦
-      ap (λ xs. fixed_code xs a) (cond-false (test m.block) (m ∷ filter (λ m. test m.block) box) (filter (λ m. test m.block) box) goes)
+      ap (λ xs. exact_code xs a) (cond-false (test m.block) (m ∷ filter (λ m. test m.block) box) (filter (λ m. test m.block) box) goes)
       ∙ kept test box a t
-      ∙ sym (cond-false (m.block == a) (code_alone m) (fixed_code box a) (ne_eqb m.block a (λ e. true≢false (sym t ∙ ap test (sym e) ∙ goes))))
+      ∙ sym (cond-false (m.block == a) (code_alone m) (exact_code box a) (ne_eqb m.block a (λ e. true≢false (sym t ∙ ap test (sym e) ∙ goes))))
 ]
 
 -- a filter that drops the literals on a block leaves it free
@@ -61,8 +61,8 @@ dropped test box a t =
     (filter (λ m. test m.block) box) (filter_passes (λ m. test m.block) box)
 
 -- a literal more changes nothing on the other blocks
-pub fixed_other : (box : List Literal) (l : Literal) (a : ℕ) → a ≢ l.block → fixed_code (with_literal box l) a ≡ fixed_code box a
-fixed_other box l a ne =
+pub exact_other : (box : List Literal) (l : Literal) (a : ℕ) → a ≢ l.block → exact_code (with_literal box l) a ≡ exact_code box a
+exact_other box l a ne =
     let front : List Literal = filter (λ m. nat_lt m.block l.block) box in
     let back : List Literal = filter (λ m. nat_lt l.block m.block) box in
     elim (cases_order a l.block) [
@@ -74,18 +74,18 @@ fixed_other box l a ne =
             ∙ kept (λ x. nat_lt x l.block) box a (lt-ltb a l.block less)
         | inr more ↦
             passed front (l ∷ back) a (dropped (λ x. nat_lt x l.block) box a (le-ltb a l.block (omega arith)))
-            ∙ cond-false (l.block == a) (code_alone l) (fixed_code back a) (ne_eqb l.block a (λ e. ne (sym e)))
+            ∙ cond-false (l.block == a) (code_alone l) (exact_code back a) (ne_eqb l.block a (λ e. ne (sym e)))
             ∙ kept (λ x. nat_lt l.block x) box a (lt-ltb l.block a more)
       ]
     ]
 
 -- the literal of one code fixes its block
-pub fixed_same : (box : List Literal) (b code : ℕ) → fixed_code (with_literal box (exact b code)) b ≡ Some code
-fixed_same box b code =
+pub exact_same : (box : List Literal) (b code : ℕ) → exact_code (with_literal box (exact b code)) b ≡ Some code
+exact_same box b code =
     let front : List Literal = filter (λ m. nat_lt m.block b) box in
     let back : List Literal = filter (λ m. nat_lt b m.block) box in
     passed front (exact b code ∷ back) b (dropped (λ x. nat_lt x b) box b (le-ltb b b (omega arith)))
-    ∙ cond-true (b == b) (code_alone (exact b code)) (fixed_code back b) (eq-eqb b b refl)
+    ∙ cond-true (b == b) (code_alone (exact b code)) (exact_code back b) (eq-eqb b b refl)
     ∙ cond-true (code + 1 == code + 1) (Some code) None (eq-eqb (code + 1) (code + 1) refl)
 
 -- the box has each literal that its part has

@@ -3,8 +3,8 @@ use Rattle.std.proofs.Common.{◌≡◌, ℕ, zero, suc, ◌+◌, ◌<◌, ◌�
 use Rattle.std.proofs.lemmas.Bool.{cases_lt, cases_eq}
 use Rattle.std.proofs.lemmas.Option.{none-some, same_Some}
 use Rattle.plan_rule.specs.declared.literal.Literal.{Literal}
-use Rattle.plan_rule.specs.Choices.{Choices, blocks, count}
-use Rattle.plan_rule.specs.Boxes.{Fixes, fixed_code, IsBox}
+use Rattle.plan_rule.specs.Choices.{Choices, MeetsSome, blocks, count}
+use Rattle.plan_rule.specs.Boxes.{HasExact, exact_code, IsBox}
 use Rattle.plan_rule.specs.Bounds.{IsLeastOf, IsBound, IsFit, MayFit, MayTake}
 use Rattle.plan_rule.proofs.BoundLaws.{held_block}
 use Rattle.plan_rule.proofs.ExistLaws.{IsDecided}
@@ -26,48 +26,63 @@ all_told P (suc n) told = elim (all_told P n told) [
 
 -- no code to which the side fixes this block clashes with the code
 abbrev pub IsClearOf : Choices → List Literal → ℕ → ℕ → ℕ → Type 0
-IsClearOf c side b code a = (d : ℕ) → Fixes side a d → c.Clash a d b code → ⊥
+IsClearOf c side b code a = (d : ℕ) → HasExact side a d → c.Clash a d b code → ⊥
 
-clear_told : (c : Choices) (side : List Literal) (b code a : ℕ) (o : Option ℕ) → IsDecided c → fixed_code side a ≡ o
+clear_told : (c : Choices) (side : List Literal) (b code a : ℕ) (o : Option ℕ) → IsDecided c → exact_code side a ≡ o
     → IsClearOf c side b code a ⊎ (IsClearOf c side b code a → ⊥)
 clear_told c side b code a None told e = inl (λ d fix clash. none-some d (sym e ∙ fix))
-clear_told c side b code a (Some d) told e = elim (told a d b code) [
+clear_told c side b code a (Some d) told e = elim (told.clash a d b code) [
   | inl clash ↦ inr (λ clear. clear d e clash)
   | inr apart ↦ inl (λ f fix clash. apart (subst (λ f. c.Clash a f b code) (same_Some f d (sym fix ∙ e)) clash))
 ]
 
--- the code fits where the block is not fixed
+-- the code fits where the block is not exact
 abbrev FitsFree : Choices → List Literal → ℕ → ℕ → Type 0
-FitsFree c side b code = fixed_code side b ≡ None → (a d : ℕ) → Fixes side a d → c.Clash a d b code → ⊥
+FitsFree c side b code = exact_code side b ≡ None → (a d : ℕ) → HasExact side a d → c.Clash a d b code → ⊥
 
-free_told : (c : Choices) (side : List Literal) (b code : ℕ) (o : Option ℕ) → IsDecided c → IsBox c side → fixed_code side b ≡ o
+free_told : (c : Choices) (side : List Literal) (b code : ℕ) (o : Option ℕ) → IsDecided c → IsBox c side → exact_code side b ≡ o
     → FitsFree c side b code ⊎ (FitsFree c side b code → ⊥)
 free_told c side b code (Some d) told box e = inl (λ free. absurd (none-some d (sym free ∙ e)))
-free_told c side b code None told box e = elim (all_told (IsClearOf c side b code) (blocks c) (λ a. clear_told c side b code a (fixed_code side a) told refl)) [
+free_told c side b code None told box e = elim (all_told (IsClearOf c side b code) (blocks c) (λ a. clear_told c side b code a (exact_code side a) told refl)) [
   | inl clear ↦ inl (λ free a d fix. clear a (held_block c side a d box fix) d fix)
   | inr broken ↦ inr (λ fits. broken (λ a l. fits e a))
 ]
 
-take_told : (c : Choices) (side : List Literal) (b code : ℕ) (o : Option ℕ) → fixed_code side b ≡ o → MayTake c side b code ⊎ (MayTake c side b code → ⊥)
+take_told : (c : Choices) (side : List Literal) (b code : ℕ) (o : Option ℕ) → exact_code side b ≡ o → MayTake c side b code ⊎ (MayTake c side b code → ⊥)
 take_told c side b code o e = elim (cases_lt code (count c b)) [
   | inr past ↦ inr (λ may. let l = may.0 in absurd (omega arith))
   | inl within ↦ only o e within
 ]
   where
-    only : (o : Option ℕ) → fixed_code side b ≡ o → code < count c b → MayTake c side b code ⊎ (MayTake c side b code → ⊥)
+    only : (o : Option ℕ) → exact_code side b ≡ o → code < count c b → MayTake c side b code ⊎ (MayTake c side b code → ⊥)
     only None e within = inl (within, λ d fix. absurd (none-some d (sym e ∙ fix)))
     only (Some d) e within = elim (cases_eq code d) [
       | inl same ↦ inl (within, λ f fix. same ∙ same_Some d f (sym e ∙ fix))
       | inr differ ↦ inr (λ may. differ (may.1 d e))
     ]
 
+-- the code meets no piece where the block is not exact
+abbrev MissesFree : Choices → List Literal → ℕ → ℕ → Type 0
+MissesFree c side b code = exact_code side b ≡ None → MeetsSome c b code → ⊥
+
+misses_told : (c : Choices) (side : List Literal) (b code : ℕ) (o : Option ℕ) → IsDecided c → exact_code side b ≡ o
+    → MissesFree c side b code ⊎ (MissesFree c side b code → ⊥)
+misses_told c side b code (Some d) told e = inl (λ free. absurd (none-some d (sym free ∙ e)))
+misses_told c side b code None told e = elim (told.meets b code) [
+  | inl met ↦ inr (λ h. h e met)
+  | inr none ↦ inl (λ free. none)
+]
+
 -- it can be told which codes fit
 fit_told : (c : Choices) (side : List Literal) (b code : ℕ) → IsDecided c → IsBox c side → MayFit c side b code ⊎ (MayFit c side b code → ⊥)
-fit_told c side b code told box = elim (take_told c side b code (fixed_code side b) refl) [
+fit_told c side b code told box = elim (take_told c side b code (exact_code side b) refl) [
   | inr broken ↦ inr (λ may. broken may.0)
-  | inl take ↦ elim (free_told c side b code (fixed_code side b) told box refl) [
-    | inl free ↦ inl (take, free)
+  | inl take ↦ elim (free_told c side b code (exact_code side b) told box refl) [
     | inr broken ↦ inr (λ may. broken may.1)
+    | inl free ↦ elim (misses_told c side b code (exact_code side b) told refl) [
+      | inl misses ↦ inl (take, free, misses)
+      | inr broken ↦ inr (λ may. broken may.2)
+    ]
   ]
 ]
 

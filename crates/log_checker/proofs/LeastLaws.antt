@@ -8,12 +8,12 @@ use Rattle.code_table.specs.Placements.{own_cost, placements}
 use Rattle.code_table.specs.Costs.{IsAtMostEachCost, IsCostOfSome}
 use Rattle.plan_rule.specs.declared.literal.Literal.{Literal}
 use Rattle.plan_rule.specs.Choices.{blocks, count}
-use Rattle.plan_rule.specs.Boxes.{Fixes, IsBox}
+use Rattle.plan_rule.specs.Boxes.{HasExact, IsBox}
 use Rattle.plan_rule.specs.Bounds.{IsLeastOf, IsSumOfLeast, MayFit}
 use Rattle.plan_rule.specs.Yards.{choices}
 use Rattle.plan_rule.proofs.CountLaws.{block_exists, count-length, cost_is}
 use Rattle.log_checker.specs.Leasts.{Below, IsLeastFit, IsLeastUpTo, is_better}
-use Rattle.log_checker.proofs.RestLaws.{least_fixed}
+use Rattle.log_checker.proofs.RestLaws.{least_exact}
 
 -- the least cost of a block's codes
 pub least_of_codes : (yard : PlainYard) (b : ℕ) (o : Option ℕ) → b < blocks (choices yard) → IfNone o (length (placements yard b) ≡ 0)
@@ -32,35 +32,54 @@ pub sum_more : (May : ℕ → ℕ → Type 0) (cost : ℕ → ℕ → ℕ) (i s 
     → IsSumOfLeast May cost (i + 1) (s + m)
 sum_more May cost i s m h k = rw add-one (s, m, h, k, refl)
 
--- a number below the next one is below this one, or is this one
-last_or : (P : ℕ → Type 0) (n x : ℕ) → x < n + 1 → (x < n → P x) → P n → P x
-last_or P n x l below last = elim (cases_lt x n) [ inl less ↦ below less | inr same ↦ subst P (let e : n ≡ x = omega arith in e) last ]
-
--- a number with the property and a better value is the new least
-pub least_take : (P : ℕ → Type 0) (value : ℕ → ℕ) (limit n m : ℕ) (best : Option ℕ) → IsLeastUpTo (Below P n) value limit best → P n → m ≡ value n
-    → is_better m best limit ≡ true → IsLeastUpTo (Below P (n + 1)) value limit (Some m)
-least_take P value limit n m None h p e better =
-    let le : m ≤ limit = leb-true m limit better in (
-      ((n, (omega arith, p), sym e), λ x w. last_or (λ x. P x → m ≤ value x) n x w.0 (λ l q. let a = h x (l, q) in omega arith) (λ q. omega arith) w.1),
+-- some numbers of one value, which is better, and one of them with the property: that value is the new least
+pub least_take : (P : ℕ → Type 0) (value : ℕ → ℕ) (limit n m v : ℕ) (best : Option ℕ) → IsLeastUpTo (Below P n) value limit best
+    → ((x : ℕ) → n ≤ x → x < m → value x ≡ v) → (found : ℕ) → n ≤ found → found < m → P found → is_better v best limit ≡ true
+    → IsLeastUpTo (Below P m) value limit (Some v)
+least_take P value limit n m v None h same found from below p better =
+    let le : v ≤ limit = leb-true v limit better in (
+      (
+        (found, (below, p), same found from below),
+        λ x w. elim (cases_lt x n) [
+          | inl l ↦ let a = h x (l, w.1) in omega arith
+          | inr l ↦ let a = same x l w.0 in omega arith
+        ],
+      ),
       le,
     )
-least_take P value limit n m (Some b) h p e better =
-    let less : m < b = ltb-true m b better in let le = h.1 in (
-      ((n, (omega arith, p), sym e), λ x w. last_or (λ x. P x → m ≤ value x) n x w.0 (λ l q. let a = h.0.1 x (l, q) in omega arith) (λ q. omega arith) w.1),
+least_take P value limit n m v (Some b) h same found from below p better =
+    let less : v < b = ltb-true v b better in let le = h.1 in (
+      (
+        (found, (below, p), same found from below),
+        λ x w. elim (cases_lt x n) [
+          | inl l ↦ let a = h.0.1 x (l, w.1) in omega arith
+          | inr l ↦ let a = same x l w.0 in omega arith
+        ],
+      ),
       omega arith,
     )
 
--- a number that has not the property, or no better value, changes nothing
-pub least_keep : (P : ℕ → Type 0) (value : ℕ → ℕ) (limit n m : ℕ) (best : Option ℕ) → IsLeastUpTo (Below P n) value limit best → m ≡ value n
-    → (P n → is_better m best limit ≡ true → ⊥) → IsLeastUpTo (Below P (n + 1)) value limit best
-least_keep P value limit n m None h e worse = λ x w.
-    last_or (λ x. P x → limit < value x) n x w.0 (λ l q. h x (l, q))
-    (λ q. elim (cases_lt limit m) [ inl above ↦ omega arith | inr better ↦ absurd (worse q (le-leb m limit better)) ]) w.1
-least_keep P value limit n m (Some b) h e worse = (
+-- some numbers of one value that have not the property, or no better value, change nothing
+pub least_keep : (P : ℕ → Type 0) (value : ℕ → ℕ) (limit n m v : ℕ) (best : Option ℕ) → n ≤ m → IsLeastUpTo (Below P n) value limit best
+    → ((x : ℕ) → n ≤ x → x < m → value x ≡ v) → ((x : ℕ) → n ≤ x → x < m → P x → is_better v best limit ≡ true → ⊥)
+    → IsLeastUpTo (Below P m) value limit best
+least_keep P value limit n m v None le h same worse = λ x w. elim (cases_lt x n) [
+  | inl l ↦ h x (l, w.1)
+  | inr l ↦ elim (cases_lt limit v) [
+    | inl above ↦ let a = same x l w.0 in omega arith
+    | inr better ↦ absurd (worse x l w.0 w.1 (le-leb v limit better))
+  ]
+]
+least_keep P value limit n m v (Some b) le h same worse = (
   (
     (let (x, w, is) = h.0.0 in let l = w.0 in (x, (omega arith, w.1), is)),
-    λ x w. last_or (λ x. P x → b ≤ value x) n x w.0 (λ l q. h.0.1 x (l, q))
-        (λ q. elim (cases_lt m b) [ inl better ↦ absurd (worse q (lt-ltb m b better)) | inr above ↦ omega arith ]) w.1,
+    λ x w. elim (cases_lt x n) [
+      | inl l ↦ h.0.1 x (l, w.1)
+      | inr l ↦ elim (cases_lt v b) [
+        | inl better ↦ absurd (worse x l w.0 w.1 (lt-ltb v b better))
+        | inr above ↦ let a = same x l w.0 in omega arith
+      ]
+    ],
   ),
   h.1,
 )
@@ -96,19 +115,19 @@ least_same P Q value limit None there back h = λ x q. h x (back x q)
 least_same P Q value limit (Some n) there back h = (((let (x, p, is) = h.0.0 in (x, there x p, is)), λ x q. h.0.1 x (back x q)), h.1)
 
 -- the only code of a block that a side fixes fits
-fixed_fits : (yard : PlainYard) (side : List Literal) (b d m : ℕ) → IsBox (choices yard) side → Fixes side b d → m ≡ own_cost yard b d
+exact_fits : (yard : PlainYard) (side : List Literal) (b d m : ℕ) → IsBox (choices yard) side → HasExact side b d → m ≡ own_cost yard b d
     → IsLeastOf (MayFit (choices yard) side b) ((choices yard).cost b) (Some m)
-fixed_fits yard side b d m box fix is =
-    let ((x, may, e), low) = least_fixed yard side b d m box fix is in
-    ((x, (may, λ free. absurd (none-some d (sym free ∙ fix))), e), λ y fits. low y fits.0)
+exact_fits yard side b d m box fix is =
+    let ((x, may, e), low) = least_exact yard side b d m box fix is in
+    ((x, (may, λ free. absurd (none-some d (sym free ∙ fix)), λ free. absurd (none-some d (sym free ∙ fix))), e), λ y fits. low y fits.0)
 
 -- its cost, where it is at most the limit
-pub fits_fixed : (yard : PlainYard) (side : List Literal) (b d m limit : ℕ) (o : Option ℕ) → IsBox (choices yard) side → Fixes side b d → m ≡ own_cost yard b d
+pub fits_exact : (yard : PlainYard) (side : List Literal) (b d m limit : ℕ) (o : Option ℕ) → IsBox (choices yard) side → HasExact side b d → m ≡ own_cost yard b d
     → o ≡ (if nat_le m limit then Some m else None) → IsLeastFit (choices yard) side b limit o
-fits_fixed yard side b d m limit o box fix is e = subst (IsLeastFit (choices yard) side b limit) (sym e) (within (nat_le m limit) refl)
+fits_exact yard side b d m limit o box fix is e = subst (IsLeastFit (choices yard) side b limit) (sym e) (within (nat_le m limit) refl)
   where
     least : IsLeastOf (MayFit (choices yard) side b) ((choices yard).cost b) (Some m)
-    least = fixed_fits yard side b d m box fix is
+    least = exact_fits yard side b d m box fix is
 
     within : (t : Bool) → nat_le m limit ≡ t → IsLeastFit (choices yard) side b limit (if t then Some m else None)
     within true t = (least, leb-true m limit t)

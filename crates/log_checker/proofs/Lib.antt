@@ -4,10 +4,11 @@ pub mod CiteLaws
 pub mod CutLaws
 pub mod FitExistLaws
 pub mod FitLaws
-pub mod FixedLaws
+pub mod ExactLaws
 pub mod FreeLaws
 pub mod LeastLaws
 pub mod NearLaws
+pub mod NearPieceLaws
 pub mod OnwardLaws
 pub mod RestLaws
 pub mod SpanLaws

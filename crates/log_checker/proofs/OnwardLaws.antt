@@ -12,7 +12,7 @@ use Rattle.plate_calendar.specs.Calendars.{open_days, end_of}
 use Rattle.plate_calendar.proofs.DayLaws.{one_if, count-sum, end_law}
 use Rattle.code_table.specs.declared.placement.Placement.{Placement}
 use Rattle.code_table.specs.Orders.{AreAscending, ComesBefore}
-use Rattle.code_table.specs.Placements.{placements, cost_of}
+use Rattle.code_table.specs.Placements.{placements, cost_of, cost_on}
 use Rattle.plan_rule.specs.Choices.{IsCode}
 use Rattle.plan_rule.specs.Yards.{choices}
 use Rattle.plan_rule.proofs.CountLaws.{cost_is}
@@ -88,7 +88,7 @@ onward_cost yard b code k start least is up value (exist, below) starts le (exis
     let order = starts_ascend (placements yard b) code k one.p two.p up le one.p_is two.p_is in
     let some = (block_of yard b two.block is two.block_is).duration in
     let late = end_late yard.days two.p.start two.block.duration two.p.end two.is.plate.closed (omega arith) two.is.end_is in
-    let cost : (choices yard).cost b k ≡ two.block.weight * (two.p.end - two.block.due) =
+    let cost : (choices yard).cost b k ≡ cost_on two.block two.p.end =
     cost_is yard b k ∙ ap (λ o. cost_of o (slice_get (placements yard b) k)) two.block_is ∙ ap (cost_of (Some two.block)) two.p_is in
     let most = mul-le two.block.weight (start + two.block.duration - 1 - two.block.due) two.block.weight (two.p.end - two.block.due) (omega arith) (omega arith) in
     let same = value two.block two.block_is in

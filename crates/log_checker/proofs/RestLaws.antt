@@ -7,24 +7,24 @@ use Rattle.code_table.specs.Costs.{IsAtMostEachCost, IsCostOfSome}
 use Rattle.code_table.specs.Placements.{placements, own_cost}
 use Rattle.plan_rule.specs.declared.literal.Literal.{Literal}
 use Rattle.plan_rule.specs.Choices.{Choices, IsCode, blocks}
-use Rattle.plan_rule.specs.Boxes.{IsBox, IsLiteral, Fixes, fixed_code, exact, with_literal}
+use Rattle.plan_rule.specs.Boxes.{IsBox, IsLiteral, HasExact, exact_code, exact, with_literal}
 use Rattle.plan_rule.specs.Bounds.{IsLeastOf, IsSumOfLeast, IsBase, MayTake}
 use Rattle.plan_rule.specs.Yards.{choices}
-use Rattle.plan_rule.proofs.BoundLaws.{fixed-all}
+use Rattle.plan_rule.proofs.BoundLaws.{exact-all}
 use Rattle.plan_rule.proofs.CountLaws.{block_exists, count-length, cost_is}
-use Rattle.log_checker.proofs.BesideLaws.{fixed_other, fixed_same}
+use Rattle.log_checker.proofs.BesideLaws.{exact_other, exact_same}
 
--- the code of a fixed block exists
-pub fixed_exists : (c : Choices) (box : List Literal) (b code : ℕ) → IsBox c box → Fixes box b code → IsCode c b code
-fixed_exists c box b code is f =
-    let l : IsLiteral c (exact b code) = fixed-all (IsLiteral c) box b code is.each f in
+-- the code of an exact block exists
+pub exact_exists : (c : Choices) (box : List Literal) (b code : ℕ) → IsBox c box → HasExact box b code → IsCode c b code
+exact_exists c box b code is f =
+    let l : IsLiteral c (exact b code) = exact-all (IsLiteral c) box b code is.each f in
     let some = l.codes in (l.block, omega arith)
 
--- a fixed block costs what its code costs
-pub least_fixed : (yard : PlainYard) (box : List Literal) (b code cost : ℕ) → IsBox (choices yard) box → Fixes box b code → cost ≡ own_cost yard b code
+-- an exact block costs what its code costs
+pub least_exact : (yard : PlainYard) (box : List Literal) (b code cost : ℕ) → IsBox (choices yard) box → HasExact box b code → cost ≡ own_cost yard b code
     → IsLeastOf (MayTake (choices yard) box b) ((choices yard).cost b) (Some cost)
-least_fixed yard box b code cost is f e =
-    let exist = fixed_exists (choices yard) box b code is f in
+least_exact yard box b code cost is f e =
+    let exist = exact_exists (choices yard) box b code is f in
     let same : (choices yard).cost b code ≡ cost = cost_is yard b code ∙ sym e in (
       (code, (exist.1, λ d g. same_Some code d (sym f ∙ g)), same),
       λ x may.
@@ -33,8 +33,8 @@ least_fixed yard box b code cost is f e =
           omega arith,
     )
 
--- a block that is not fixed costs the least of its codes
-pub least_free : (yard : PlainYard) (box : List Literal) (b : ℕ) (r : Option ℕ) → b < blocks (choices yard) → fixed_code box b ≡ None
+-- a block that is not exact costs the least of its codes
+pub least_free : (yard : PlainYard) (box : List Literal) (b : ℕ) (r : Option ℕ) → b < blocks (choices yard) → exact_code box b ≡ None
     → IfNone r (length (placements yard b) ≡ 0) → IfSome r (IsAtMostEachCost yard b) → IfSome r (IsCostOfSome yard b)
     → IsLeastOf (MayTake (choices yard) box b) ((choices yard).cost b) r
 least_free yard box b None exist free none least some =
@@ -50,10 +50,10 @@ least_free yard box b (Some cost) exist free none least (code, below, is) =
 
 -- what another block may take is the same beside each code
 may_beside : (c : Choices) (side : List Literal) (b code a x : ℕ) → a ≢ b → MayTake c side a x → MayTake c (with_literal side (exact b code)) a x
-may_beside c side b code a x ne may = (may.0, λ d f. may.1 d (sym (fixed_other side (exact b code) a ne) ∙ f))
+may_beside c side b code a x ne may = (may.0, λ d f. may.1 d (sym (exact_other side (exact b code) a ne) ∙ f))
 
 pub may_without : (c : Choices) (side : List Literal) (b code a x : ℕ) → a ≢ b → MayTake c (with_literal side (exact b code)) a x → MayTake c side a x
-may_without c side b code a x ne may = (may.0, λ d f. may.1 d (fixed_other side (exact b code) a ne ∙ f))
+may_without c side b code a x ne may = (may.0, λ d f. may.1 d (exact_other side (exact b code) a ne ∙ f))
 
 least_beside : (c : Choices) (side : List Literal) (b code a m : ℕ) → a ≢ b → IsLeastOf (MayTake c side a) (c.cost a) (Some m)
     → IsLeastOf (MayTake c (with_literal side (exact b code)) a) (c.cost a) (Some m)
@@ -64,9 +64,9 @@ least_beside c side b code a m ne ((x, may, is), least) =
 least_here : (c : Choices) (side : List Literal) (b code : ℕ) → IsCode c b code
     → IsLeastOf (MayTake c (with_literal side (exact b code)) b) (c.cost b) (Some (c.cost b code))
 least_here c side b code exist = (
-  (code, (exist.1, λ d f. same_Some code d (sym (fixed_same side b code) ∙ f)), refl),
+  (code, (exist.1, λ d f. same_Some code d (sym (exact_same side b code) ∙ f)), refl),
   λ x may.
-      let only : x ≡ code = may.1 code (fixed_same side b code) in
+      let only : x ≡ code = may.1 code (exact_same side b code) in
       let same : c.cost b x ≡ c.cost b code = ap (c.cost b) only in
       omega arith,
 )

@@ -3,8 +3,10 @@ use Rattle.std.proofs.Common.{◌≡◌, ℕ, ◌<◌, List, Option, Some, None,
 use Rattle.std.specs.Prelude.{slice_get, take, All, ◌↔◌, Result, Ok, Err, IfOk}
 use Rattle.std.proofs.lemmas.List.Elements.{All-contains, All-nil}
 use Rattle.std.proofs.lemmas.Option.{same_Some, slice_get_within, get_or_from_slice_get}
-use Rattle.plan_rule.specs.Choices.{Choices, blocks}
-use Rattle.plan_rule.specs.Plans.{IsAnswer, IsBest, IsFeasible}
+use Rattle.plan_rule.specs.Choices.{Choices, MeetsSome, blocks}
+use Rattle.plan_rule.specs.Plans.{code_of, HasNoClash, IsAnswer, IsBest, IsFeasible, IsPlan, MeetsNone}
+use Rattle.plan_rule.specs.Pieces.{IsFirstMeeting}
+use Rattle.plan_rule.proofs.CountLaws.{blocks-length}
 use Rattle.plan_rule.specs.Yards.{choices}
 use Rattle.shape_exact.specs.Yards.{PlainYard, IsYard}
 use Rattle.shape_exact.specs.declared.memory.NoMemory.{NoMemory}
@@ -17,7 +19,7 @@ use Rattle.refutation_log.specs.declared.record.Record.TheVariants.{Branch, Fit,
 use Rattle.refutation_log.specs.Logs.{cites_of}
 use Rattle.refutation_log.specs.Steps.{IsAccepted, IsStep}
 use Rattle.log_checker.specs.declared.verdict.Refused.{Refused}
-use Rattle.log_checker.specs.declared.verdict.Refused.TheVariants.{PlanNotFeasible, BadCite, Uncovered, BoundLow, NotEmpty, BadForm}
+use Rattle.log_checker.specs.declared.verdict.Refused.TheVariants.{PlanNotFeasible, BadCite, Uncovered, BoundLow, NotEmpty, BadForm, PlanMeetsFixed}
 use Rattle.log_checker.specs.declared.verdict.Verdict.{Verdict}
 use Rattle.log_checker.specs.declared.verdict.Verdict.TheVariants as verdict
 use Rattle.log_checker.specs.Verdicts.{HasLowBound, IsFault, IsFirstFault, IsRefusal, IsVerdict, LeavesCode}
@@ -58,6 +60,7 @@ fault_no_step c t earlier r (BadCite step cite) (at, form, first) s =
 fault_no_step c t earlier r (Uncovered step code) (at, form, early, leaves) s = step_covers c t earlier r code leaves s
 fault_no_step c t earlier r (BoundLow step n) (at, form, low) s = step_bound c t earlier r n low s
 fault_no_step c t earlier r NotEmpty f s = f
+fault_no_step c t earlier r (PlanMeetsFixed b i) f s = f
 fault_no_step c t earlier r (BadForm step) (at, bad) s = bad (step_form c t earlier r s)
 
 -- a log with a first fault is not accepted
@@ -74,10 +77,16 @@ pair_not_answer c t a b p pair feasible =
     let less = second.later in
     feasible.clear a b (let m = second.block in omega arith) second.block (λ e. absurd (omega arith)) second.clash
 
+-- a plan that meets a piece is not feasible
+meeting_not_answer : (c : Choices) (p : List ℕ) (b i : ℕ) → IsFirstMeeting c p b i → IsFeasible c p → ⊥
+meeting_not_answer c p b i first feasible = feasible.unmet b first.block (i, first.piece.meets)
+
 -- a refused log is not accepted
 pub refusal_not_accepted : (c : Choices) (t : Option (List ℕ)) (log : List Record) (refused : Refused) → IsRefusal c t log refused → IsAccepted c t log → ⊥
 refusal_not_accepted c None log (PlanNotFeasible a b) h accepted = h
 refusal_not_accepted c (Some p) log (PlanNotFeasible a b) h accepted = pair_not_answer c (Some p) a b p h accepted.answer
+refusal_not_accepted c None log (PlanMeetsFixed b i) h accepted = h
+refusal_not_accepted c (Some p) log (PlanMeetsFixed b i) h accepted = meeting_not_answer c p b i h.1 accepted.answer
 refusal_not_accepted c t log NotEmpty (answer, steps, full) accepted = full accepted.last
 refusal_not_accepted c t log (BadCite step cite) (answer, first) accepted = first_fault_not_accepted c t log (BadCite step cite) first accepted
 refusal_not_accepted c t log (Uncovered step code) (answer, first) accepted = first_fault_not_accepted c t log (Uncovered step code) first accepted
@@ -106,6 +115,7 @@ fault_refuses c t log (BadCite step cite) answer first = (answer, first)
 fault_refuses c t log (Uncovered step code) answer first = (answer, first)
 fault_refuses c t log (BoundLow step n) answer first = (answer, first)
 fault_refuses c t log NotEmpty answer first = absurd first.here
+fault_refuses c t log (PlanMeetsFixed b i) answer first = absurd first.here
 fault_refuses c t log (BadForm step) answer first = (answer, first)
 
 -- a call that answers the verdict answers Accepted exactly where the log is accepted
@@ -119,3 +129,7 @@ pub answer_best : (yard : PlainYard) (t : Option (List ℕ)) (log : List Record)
     → IfOk o (IsVerdict (choices yard) t log) → IfOk o (λ v. v ≡ verdict.Accepted → IsBest (choices yard) t)
 answer_best yard t log (Ok v) is h = λ e. accepted_of_yard yard t log is ((verdict_decides (choices yard) t log v h).0 e)
 answer_best yard t log (Err e) is h = h
+
+-- a plan without a clash that meets no piece may stand
+pub plan_stands : (yard : PlainYard) (p : List ℕ) → IsPlan (choices yard) p → HasNoClash (choices yard) p → MeetsNone (choices yard) p → IsFeasible (choices yard) p
+plan_stands yard p is clear unmet = record { is_plan = is; clear = clear; unmet = unmet }

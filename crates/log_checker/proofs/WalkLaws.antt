@@ -1,5 +1,5 @@
 -- The steps of a walk over the codes of a block.
-use Rattle.std.proofs.Common.{◌≡◌, ℕ, ◌+◌, ◌<◌, ◌≤◌, List, length, get_or, Bool, true, Some, ◌⊎◌, sym, ap, ◌∙◌, subst, inl, inr, arith}
+use Rattle.std.proofs.Common.{◌≡◌, ℕ, ◌+◌, ◌<◌, ◌≤◌, List, [], length, get_or, Bool, true, Some, ◌⊎◌, sym, ap, ◌∙◌, subst, inl, inr, arith}
 use Rattle.std.specs.Prelude.{slice_get, max, IsTrue, ◌↔◌}
 use Rattle.std.specs.List.Sorted.{IsNonDecreasingBy}
 use Rattle.std.proofs.lemmas.Bool.{cases_lt, cases_order}
@@ -8,19 +8,19 @@ use Rattle.std.proofs.lemmas.Option.{same_Some}
 use Rattle.shape_exact.specs.Yards.{PlainYard}
 use Rattle.shape_exact.specs.declared.block.Block.{Block}
 use Rattle.code_table.specs.declared.placement.Placement.{Placement}
-use Rattle.code_table.specs.Placements.{placements, cost_at, cost_of, own_cost}
+use Rattle.code_table.specs.declared.stretch.Stretch.{Stretch}
+use Rattle.code_table.specs.Placements.{placements, cost_at, cost_of, cost_on, own_cost}
+use Rattle.code_table.specs.Stretches.{IsStretch, nth_place}
 use Rattle.plan_rule.specs.Choices.{blocks, count}
 use Rattle.plan_rule.specs.Yards.{choices}
 use Rattle.plan_rule.proofs.ClashLaws.{element}
 use Rattle.plan_rule.proofs.CountLaws.{block_exists, count-length, cost_is}
 use Rattle.log_checker.specs.declared.cut.Cut.{Cut}
-use Rattle.log_checker.specs.declared.fixed.Fixed.{Fixed}
+use Rattle.log_checker.specs.declared.exact.Exact.{Exact}
 use Rattle.log_checker.specs.declared.span.Span.{Span}
 use Rattle.log_checker.specs.Cuts.{Takes}
-use Rattle.log_checker.specs.FixedBlocks.{MeetsOne, IsNear}
 use Rattle.log_checker.specs.Spans.{InOne}
-use Rattle.log_checker.specs.Walks.{ArePassed, IsSettled}
-use Rattle.log_checker.proofs.NearLaws.{near_meets}
+use Rattle.log_checker.specs.Walks.{ArePassed, IsHindered, IsSettled}
 
 -- a span more is passed, on to its end
 pub passed_more : (spans : List Span) (n code next : ℕ) (d : Span) → n < length spans → next ≡ max code (get_or spans n d).hi
@@ -34,11 +34,15 @@ passed_more spans n code next d within is passed k e low below = elim (cases_lt 
       omega arith
 ]
 
+-- spans that end at a code or before it end so at a later one
+pub passed_on : (spans : List Span) (n code next : ℕ) → code ≤ next → ArePassed spans n code → ArePassed spans n next
+passed_on spans n code next le passed k e low below = let h = passed k e low below in omega arith
+
 -- the codes up to its end are in a span
-pub skipped_more : (spans : List Span) (from n code next : ℕ) (d : Span) → n < length spans → (get_or spans n d).lo ≤ code
-    → next ≡ max code (get_or spans n d).hi → ((k : ℕ) → from ≤ k → k < code → InOne spans k) → (k : ℕ) → from ≤ k → k < next → InOne spans k
-skipped_more spans from n code next d within begins is skipped k low below = elim (cases_lt k code) [
-  | inl less ↦ skipped k low less
+pub skipped_more : (spans : List Span) (Asked : ℕ → Type 0) (n code next : ℕ) (d : Span) → n < length spans → (get_or spans n d).lo ≤ code
+    → next ≡ max code (get_or spans n d).hi → ((k : ℕ) → Asked k → k < code → InOne spans k) → (k : ℕ) → Asked k → k < next → InOne spans k
+skipped_more spans Asked n code next d within begins is skipped k asked below = elim (cases_lt k code) [
+  | inl less ↦ skipped k asked less
   | inr more ↦ (n, get_or spans n d, within, get_or_default spans n (get_or spans n d) d within, (omega arith, omega arith))
 ]
 
@@ -65,47 +69,68 @@ cost_of_place yard b code cost p exists at is =
     ap (λ o. cost_of o (slice_get (placements yard b) code)) here ∙ ap (cost_of (Some block)) at in
     is block here ∙ sym own ∙ sym (cost_is yard b code)
 
--- a cut that takes the cost settles the test
-pub taken_settles : (A B : Type 0) (t : Bool) → t ≡ true → A → IsTrue t ↔ (A ⊎ B)
-taken_settles A B t is a = (λ h. inl a, λ h. is)
+-- the codes of a stretch have the cost of its end
+pub stretch_cost : (yard : PlainYard) (b cost code : ℕ) (s : Stretch) → b < length yard.blocks → IsStretch (placements yard b) s
+    → s.lo ≤ code → code < s.hi → ((block : Block) → slice_get yard.blocks b ≡ Some block → cost ≡ cost_on block s.place.end)
+    → cost ≡ (choices yard).cost b code
+stretch_cost yard b cost code s exists is low high told =
+    cost_of_place yard b code cost (nth_place s code) exists (is.each code low high) told
 
--- one that does not leaves it to the fixed blocks
-pub meets_settles : (A B : Type 0) (t : Bool) → (A → ⊥) → (IsTrue t ↔ B) → IsTrue t ↔ (A ⊎ B)
-meets_settles A B t none is = (
-  λ h. inr (is.0 h),
-  λ h. elim h [ inl a ↦ absurd (none a) | inr b ↦ is.1 b ],
-)
+-- what the cut keeps of a stretch, as the costs of its codes tell
+pub stretch_taken : (yard : PlainYard) (b cost kept end : ℕ) (cut : Cut) (s : Stretch) → b < length yard.blocks → IsStretch (placements yard b) s
+    → end ≤ s.hi → ((block : Block) → slice_get yard.blocks b ≡ Some block → cost ≡ cost_on block s.place.end)
+    → ((code : ℕ) → code < end → (kept ≤ code) ↔ Takes cut cost code)
+    → (code : ℕ) → s.lo ≤ code → code < end → (kept ≤ code) ↔ Takes cut ((choices yard).cost b code) code
+stretch_taken yard b cost kept end cut s exists is le told takes code low below =
+    subst (λ n. (kept ≤ code) ↔ Takes cut n code) (stretch_cost yard b cost code s exists is low (omega arith) told) (takes code below)
 
--- a code that no span has is settled by the cut, or by the fixed blocks that are near
-pub settled_here : (yard : PlainYard) (b : ℕ) (cut : Cut) (fixed near now : List Fixed) (spans : List Span) (code : ℕ) (p : Placement) (t : Bool)
-    → slice_get (placements yard b) code ≡ Some p → IsNear p fixed near → now ≡ near → (InOne spans code → ⊥)
-    → (IsTrue t ↔ (Takes cut ((choices yard).cost b code) code ⊎ MeetsOne yard now b p)) → IsTrue t ↔ IsSettled yard b cut fixed spans code
-settled_here yard b cut fixed near now spans code p t at close same left is = (
-  λ h. elim (is.0 h) [
-    | inl taken ↦ inr (inl taken)
-    | inr met ↦ inl (p, at, (near_meets yard fixed near b p close).0 (subst (λ fs. MeetsOne yard fs b p) same met))
-  ],
-  λ h. elim h [
-    | inl met ↦
-        let (q, there, m) = met in
-        is.1 (inr (subst (λ fs. MeetsOne yard fs b p) (sym same)
-        ((near_meets yard fixed near b p close).1 (subst (MeetsOne yard fixed b) (same_Some q p (sym there ∙ at)) m))))
-    | inr other ↦ elim other [
-      | inl taken ↦ is.1 (inl taken)
-      | inr inside ↦ absurd (left inside)
-    ]
-  ],
-)
+-- a code more to which a walk has come is hindered, and those after it are in spans
+pub hindered_to : (yard : PlainYard) (b : ℕ) (exacts : List Exact) (spans : List Span) (from code next : ℕ)
+    → ((k : ℕ) → from ≤ k → k < code → InOne spans k ⊎ IsHindered yard exacts b k) → IsHindered yard exacts b code
+    → ((k : ℕ) → code < k → k < next → InOne spans k)
+    → (k : ℕ) → from ≤ k → k < next → InOne spans k ⊎ IsHindered yard exacts b k
+hindered_to yard b exacts spans from code next before here skipped k low below = elim (cases_order k code) [
+  | inl same ↦ inr (subst (IsHindered yard exacts b) (sym same) here)
+  | inr differ ↦ elim differ [ inl less ↦ before k low less | inr more ↦ inl (skipped k more below) ]
+]
 
--- each code up to the next that no span has is settled
-pub settled_more : (P : ℕ → Type 0) (spans : List Span) (lo hi code next : ℕ) → ((k : ℕ) → InOne spans k → P k)
-    → ((k : ℕ) → lo ≤ k → k < code → k < hi → P k) → P code → ((k : ℕ) → code < k → k < next → InOne spans k)
-    → (k : ℕ) → lo ≤ k → k < next → k < hi → P k
-settled_more P spans lo hi code next inside before here skipped k low below high = elim (cases_order k code) [
-  | inl same ↦ subst P (sym same) here
-  | inr differ ↦ elim differ [
-    | inl less ↦ before k low less high
-    | inr more ↦ inside k (skipped k more below)
+-- no code is in one of no spans
+pub in_no_span : (code : ℕ) → InOne [] code → ⊥
+in_no_span code (k, s, within, is, inside) = absurd (omega arith)
+
+-- the codes to which a walk has come are settled
+pub settled_to : (yard : PlainYard) (b : ℕ) (cut : Cut) (exacts : List Exact) (spans : List Span) (lo hi code next : ℕ)
+    → ((k : ℕ) → lo ≤ k → k < code → k < hi → IsSettled yard b cut exacts spans k)
+    → ((k : ℕ) → code ≤ k → k < next → InOne spans k ⊎ IsHindered yard exacts b k)
+    → (k : ℕ) → lo ≤ k → k < next → k < hi → IsSettled yard b cut exacts spans k
+settled_to yard b cut exacts spans lo hi code next before skipped k low below high = elim (cases_lt k code) [
+  | inl less ↦ before k low less high
+  | inr more ↦ elim (skipped k more below) [ inl inside ↦ inr (inr inside) | inr hindered ↦ inl hindered ]
+]
+
+-- and so are those that the cut takes, and those that spans have
+pub settled_on : (yard : PlainYard) (b : ℕ) (cut : Cut) (exacts : List Exact) (spans : List Span) (lo hi from code kept end next : ℕ)
+    → from ≤ code → kept ≤ code → ((k : ℕ) → lo ≤ k → k < code → k < hi → IsSettled yard b cut exacts spans k)
+    → ((k : ℕ) → from ≤ k → k < end → (kept ≤ k) ↔ Takes cut ((choices yard).cost b k) k)
+    → ((k : ℕ) → code ≤ k → end ≤ k → k < next → InOne spans k)
+    → (k : ℕ) → lo ≤ k → k < next → k < hi → IsSettled yard b cut exacts spans k
+settled_on yard b cut exacts spans lo hi from code kept end next begins past before takes skipped k low below high = elim (cases_lt k code) [
+  | inl less ↦ before k low less high
+  | inr more ↦ elim (cases_lt k end) [
+    | inl early ↦ inr (inl ((takes k (omega arith) early).0 (omega arith)))
+    | inr late ↦ inr (inr (skipped k more late below))
+  ]
+]
+
+-- a code that the cut keeps, that no span has and that nothing hinders is not settled
+pub not_settled : (yard : PlainYard) (b : ℕ) (cut : Cut) (exacts : List Exact) (spans : List Span) (code kept : ℕ) → code < kept
+    → ((kept ≤ code) ↔ Takes cut ((choices yard).cost b code) code) → (InOne spans code → ⊥) → (IsHindered yard exacts b code → ⊥)
+    → IsSettled yard b cut exacts spans code → ⊥
+not_settled yard b cut exacts spans code kept below takes left clear h = elim h [
+  | inl hindered ↦ clear hindered
+  | inr other ↦ elim other [
+    | inl taken ↦ let past = takes.1 taken in omega arith
+    | inr inside ↦ left inside
   ]
 ]
 

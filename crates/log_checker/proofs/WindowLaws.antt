@@ -4,7 +4,8 @@ use Rattle.std.specs.Prelude.{slice_get, is_none, is_some, nat_le, ◌&&◌, IfS
 use Rattle.std.specs.Option.{option_map_or}
 use Rattle.std.proofs.lemmas.Bool.{cases_lt, cond-true, true≢false}
 use Rattle.std.proofs.lemmas.Option.{same_Some}
-use Rattle.shape_exact.specs.Yards.{PlainYard}
+use Rattle.shape_exact.specs.Yards.{PlainYard, IsPiece}
+use Rattle.shape_exact.specs.declared.fixed.Fixed.{Fixed}
 use Rattle.shape_exact.specs.declared.block.Block.{Block}
 use Rattle.shape_exact.specs.declared.plate.Plate.{Plate}
 use Rattle.shape_exact.specs.Shapes.{cells}
@@ -15,12 +16,12 @@ use Rattle.code_table.specs.Costs.{lesser}
 use Rattle.code_table.specs.Placements.{placements}
 use Rattle.plan_rule.specs.declared.literal.Literal.{Literal}
 use Rattle.plan_rule.specs.Choices.{Choices, IsCode, blocks, count}
-use Rattle.plan_rule.specs.Boxes.{Fixes, fixed_code}
+use Rattle.plan_rule.specs.Boxes.{HasExact, exact_code}
 use Rattle.plan_rule.specs.Fronts.{HasCodes}
 use Rattle.plan_rule.specs.Bounds.{IsLeastOf, IsBase, IsTight, IsRaise, IsEnergy, MayTake, presses}
-use Rattle.plan_rule.specs.Yards.{capacity, choices, plate_days, taken, taken_by}
+use Rattle.plan_rule.specs.Yards.{capacity, choices, plate_days, standing, stood_by, taken, taken_by}
 use Rattle.plan_rule.proofs.YardLaws.{coded}
-use Rattle.log_checker.specs.Windows.{HasRoom, IsLeastRaiseBelow, IsRaiseIn, plate_room, work_in}
+use Rattle.log_checker.specs.Windows.{HasRoom, IsLeastRaiseBelow, IsRaiseIn, plate_room, stood_at, work_in}
 use Rattle.log_checker.proofs.FitLaws.{least_at}
 
 -- the figures of a block
@@ -151,15 +152,15 @@ taken_of yard first last b code from to days area p opens within is days_is from
     ∙ sym (taken_is yard first last b code c.block p c.is.plate c.block_is is on)
 
 -- whether a block presses, by its figures
-pub presses_free : (yard : PlainYard) (side : List Literal) (first last b : ℕ) (block : Block) → fixed_code side b ≡ None → slice_get yard.blocks b ≡ Some block
+pub presses_free : (yard : PlainYard) (side : List Literal) (first last b : ℕ) (block : Block) → exact_code side b ≡ None → slice_get yard.blocks b ≡ Some block
     → presses (choices yard) side first last b ≡ (nat_le first block.release && nat_le block.due last)
 presses_free yard side first last b block free at =
     ap (λ o. is_none o && nat_le first ((choices yard).release b) && nat_le ((choices yard).due b) last) free
     ∙ ap (λ r. nat_le first r && nat_le ((choices yard).due b) last) (release_is yard b block at)
     ∙ ap (λ d. nat_le first block.release && nat_le d last) (due_is yard b block at)
 
-pub presses_fixed : (c : Choices) (side : List Literal) (first last b d : ℕ) → Fixes side b d → presses c side first last b ≡ false
-presses_fixed c side first last b d fix = ap (λ o. is_none o && nat_le first (c.release b) && nat_le (c.due b) last) fix
+pub presses_exact : (c : Choices) (side : List Literal) (first last b d : ℕ) → HasExact side b d → presses c side first last b ≡ false
+presses_exact c side first last b d fix = ap (λ o. is_none o && nat_le first (c.release b) && nat_le (c.due b) last) fix
 
 -- the work of a block that presses
 pub work_pressing : (yard : PlainYard) (side : List Literal) (first last b duration area : ℕ) (block : Block) → presses (choices yard) side first last b ≡ true
@@ -188,3 +189,26 @@ lesser_few n (Some u) (Some v) f g = omega arith
 pub none_of : (o p : Option ℕ) → o ≡ p → is_some o ≡ false → p ≡ None
 none_of None p e f = sym e
 none_of (Some d) p e f = absurd (true≢false f)
+
+-- what the pieces take, piece by piece
+pub standing_is : (yard : PlainYard) (first last n : ℕ) → n ≡ length yard.fixed → (choices yard).standing first last ≡ sum_below n (stood_at yard first last)
+unfolding choices standing
+standing_is yard first last n e = ap (λ n. sum_below n (stood_at yard first last)) (sym e)
+
+-- what the pieces take with one more
+pub standing_next : (yard : PlainYard) (first last n sum more : ℕ) (f : Fixed) → sum ≡ sum_below n (stood_at yard first last) → slice_get yard.fixed n ≡ Some f
+    → more ≡ stood_by yard first last f → sum + more ≡ sum_below (n + 1) (stood_at yard first last)
+standing_next yard first last n sum more f e at is =
+    sum_next n sum more (stood_at yard first last) e (is ∙ ap (λ o. option_map_or (stood_by yard first last) o 0) (sym at))
+
+-- what a piece takes, by its figures as they were read
+pub stood_of : (yard : PlainYard) (first last from to days area : ℕ) (f : Fixed) (opens : List ℕ) → IsPiece yard.days yard.plates f
+    → days ≡ open_between opens from to → from ≡ max first f.from → to ≡ min last f.to
+    → ((q : Plate) → slice_get yard.plates f.plate ≡ Some q → opens ≡ open_days yard.days q.closed)
+    → area ≡ cells f.shape → days * area ≡ stood_by yard first last f
+stood_of yard first last from to days area f opens is days_is from_is to_is opens_are area_is =
+    let d : days ≡ plate_days yard (max first f.from) (min last f.to) is.plate =
+    days_is ∙ ap (λ f. open_between opens f to) from_is ∙ ap (λ t. open_between opens (max first f.from) t) to_is
+    ∙ ap (λ o. open_between o (max first f.from) (min last f.to)) (opens_are is.plate is.plate_is) in
+    ap (λ d. d * area) d ∙ ap (λ a. plate_days yard (max first f.from) (min last f.to) is.plate * a) area_is
+    ∙ ap (λ o. option_map_or (plate_days yard (max first f.from) (min last f.to)) o 0 * cells f.shape) (sym is.plate_is)

@@ -1,9 +1,10 @@
 pub mod Claims
 pub mod Cuts
-pub mod FixedBlocks
+pub mod ExactBlocks
 pub mod Forms
 pub mod Leasts
 pub mod Lines
+pub mod NearPieces
 pub mod Spans
 pub mod Ties
 pub mod Verdicts

@@ -1,7 +1,7 @@
 -- The line that tells why a log is not accepted.
 use Rattle.std.specs.Prelude.{ℕ, List, [], ◌∷◌, ◌++◌, codes, decimal}
 use Rattle.log_checker.specs.declared.verdict.Refused.{Refused}
-use Rattle.log_checker.specs.declared.verdict.Refused.TheVariants.{PlanNotFeasible, BadCite, Uncovered, BoundLow, NotEmpty, BadForm}
+use Rattle.log_checker.specs.declared.verdict.Refused.TheVariants.{PlanNotFeasible, BadCite, Uncovered, BoundLow, NotEmpty, BadForm, PlanMeetsFixed}
 
 -- a line of a word and one number
 abbrev pub told : List ℕ → ℕ → List ℕ
@@ -19,3 +19,4 @@ refused_line (Uncovered step code) = told_two (codes "not certified 3 Uncovered 
 refused_line (BoundLow step bound) = told_two (codes "not certified 4 BoundLow ") step bound
 refused_line NotEmpty = codes "not certified 5 NotEmpty\n"
 refused_line (BadForm step) = told (codes "not certified 6 BadForm ") step
+refused_line (PlanMeetsFixed block piece) = told_two (codes "not certified 7 PlanMeetsFixed ") block piece

@@ -3,7 +3,7 @@ use Rattle.std.specs.Prelude.{◌≡◌, ◌≢◌, ℕ, ◌<◌, ◌≤◌, Lis
 use Rattle.plan_rule.specs.declared.literal.Literal.{Literal}
 use Rattle.plan_rule.specs.Choices.{Choices, IsCode}
 use Rattle.plan_rule.specs.Plans.{code_of}
-use Rattle.plan_rule.specs.Boxes.{Fixes, exact, with_literal}
+use Rattle.plan_rule.specs.Boxes.{HasExact, exact, with_literal}
 use Rattle.plan_rule.specs.Bounds.{IsBehind}
 
 -- a literal of the box on the block has only codes above this one
@@ -14,8 +14,8 @@ IsAbove box b code = Any (λ l. (l.block ≡ b) × (code < l.lo)) box
 pub record IsFirstApart (box : List Literal) (p : List ℕ) (b j : ℕ) : Type 0 where
   pub within : j ≤ length p
   pub other : j ≢ b
-  pub before : (a : ℕ) → a < j → a ≢ b → Fixes box a (code_of p a)
-  pub here : j < length p → Fixes box j (code_of p j) → ⊥
+  pub before : (a : ℕ) → a < j → a ≢ b → HasExact box a (code_of p a)
+  pub here : j < length p → HasExact box j (code_of p j) → ⊥
 
 -- the block is past the last one, or its codes in the box are above the plan's
 abbrev pub IsBehindFrom : List Literal → List ℕ → ℕ → Type 0

@@ -2,7 +2,8 @@
 use Rattle.std.specs.Prelude.{◌≡◌, ℕ, ◌+◌, ◌<◌, ◌≤◌, List, [], Option, Some, None, length, slice_get, take}
 use Rattle.plan_rule.specs.declared.literal.Literal.{Literal}
 use Rattle.plan_rule.specs.Choices.{Choices}
-use Rattle.plan_rule.specs.Plans.{IsAnswer}
+use Rattle.plan_rule.specs.Plans.{IsAnswer, HasNoClash}
+use Rattle.plan_rule.specs.Pieces.{IsFirstMeeting}
 use Rattle.plan_rule.specs.Pairs.{IsFirstPair}
 use Rattle.plan_rule.specs.Bounds.{IsFit, IsEnergy, Refutes}
 use Rattle.refutation_log.specs.declared.record.Record.{Record}
@@ -10,7 +11,7 @@ use Rattle.refutation_log.specs.declared.record.Record.TheVariants.{Branch, Fit,
 use Rattle.refutation_log.specs.Logs.{cites_of}
 use Rattle.refutation_log.specs.Steps.{IsAccepted, IsCovered, IsStepAt, result_of}
 use Rattle.log_checker.specs.declared.verdict.Refused.{Refused}
-use Rattle.log_checker.specs.declared.verdict.Refused.TheVariants.{PlanNotFeasible, BadCite, Uncovered, BoundLow, NotEmpty, BadForm}
+use Rattle.log_checker.specs.declared.verdict.Refused.TheVariants.{PlanNotFeasible, BadCite, Uncovered, BoundLow, NotEmpty, BadForm, PlanMeetsFixed}
 use Rattle.log_checker.specs.declared.verdict.Verdict.{Verdict}
 use Rattle.log_checker.specs.declared.verdict.Verdict.TheVariants as verdict
 use Rattle.log_checker.specs.Forms.{CitesBelow, HasForm}
@@ -52,6 +53,7 @@ IsFault c t earlier r (Uncovered step code) =
     (step ≡ length earlier) × HasForm c r × CitesBelow step r × LeavesCode c t earlier r code
 IsFault c t earlier r (BoundLow step bound) = (step ≡ length earlier) × HasForm c r × HasLowBound c t r bound
 IsFault c t earlier r NotEmpty = ⊥
+IsFault c t earlier r (PlanMeetsFixed b i) = ⊥
 IsFault c t earlier r (BadForm step) = (step ≡ length earlier) × (HasForm c r → ⊥)
 
 -- the plan's first pair of blocks that clash
@@ -75,10 +77,16 @@ pub record IsFirstFault (c : Choices) (t : Option (List ℕ)) (log : List Record
   pub before : AreStepsBefore c t log number
   pub here : IsFault c t (take number log) entry refused
 
--- the first reason to refuse a log: a clash in the plan, then the first record that is no step, then that the last one
--- does not refute every plan
+-- no two of the plan's codes clash, and the first block and its first piece such that the block's code meets the piece
+abbrev pub HasMeeting : Choices → Option (List ℕ) → ℕ → ℕ → Type 0
+HasMeeting c None b i = ⊥
+HasMeeting c (Some p) b i = HasNoClash c p × IsFirstMeeting c p b i
+
+-- the first reason to refuse a log: a clash in the plan, then a meeting of the plan with a fixed piece, then the first
+-- record that is no step, then that the last one does not refute every plan
 abbrev pub IsRefusal : Choices → Option (List ℕ) → List Record → Refused → Type 0
 IsRefusal c t log (PlanNotFeasible a b) = HasClash c t a b
+IsRefusal c t log (PlanMeetsFixed b i) = HasMeeting c t b i
 IsRefusal c t log NotEmpty = IsAnswer c t × AreStepsBefore c t log (length log) × (EndsEmpty c log → ⊥)
 IsRefusal c t log (BadCite step cite) = IsAnswer c t × IsFirstFault c t log (BadCite step cite)
 IsRefusal c t log (Uncovered step code) = IsAnswer c t × IsFirstFault c t log (Uncovered step code)
@@ -89,3 +97,7 @@ IsRefusal c t log (BadForm step) = IsAnswer c t × IsFirstFault c t log (BadForm
 abbrev pub IsVerdict : Choices → Option (List ℕ) → List Record → Verdict → Type 0
 IsVerdict c t log verdict.Accepted = IsAccepted c t log
 IsVerdict c t log (verdict.Refused refused) = IsRefusal c t log refused
+
+-- whatever the log, this is the first reason to refuse it
+abbrev pub RefusesAll : Choices → Option (List ℕ) → Refused → Type 0
+RefusesAll c t refused = (log : List Record) → IsRefusal c t log refused

@@ -11,8 +11,8 @@ ghost use Rattle.log_checker.specs.Verdicts.{IsFirstUncovered};
 use crate::cited::spans_of;
 use crate::claim::Claim;
 use crate::cut::cut_of;
-use crate::fixed::fixed_of;
-use crate::walk::first_uncovered;
+use crate::exact::exact_of;
+use crate::uncovered::first_uncovered;
 use code_table::Codes;
 use plan_rule::PlanBox;
 use refutation_log::{Cites, Record};
@@ -48,14 +48,14 @@ pub(crate) fn branch_fault(
 {
     let cut = cut_of(codes, claim, side, block);
     let spans = spans_of(alloc, codes, earlier, cites, side, block)?;
-    let fixed = fixed_of(codes, side);
+    let exacts = exact_of(codes, side);
     Ok(first_uncovered(
         codes,
         block,
         lo,
         hi,
         cut,
-        fixed.as_slice(),
+        exacts.as_slice(),
         spans.as_slice(),
     ))
 }

@@ -41,14 +41,24 @@ pub(crate) fn least_from(codes: &Codes, block: u8, start: u16) -> u32
 }
 
 impl Cut {
-    /// Whether the cut takes a code of this cost.
-    pub(crate) fn takes(self, cost: u32, code: u32) -> bool
-        ensures { IsTrue result ↔ Takes self cost code }
+    /// Up to which code, and without it, the cut leaves the codes below `end` that have this cost; from there on it takes
+    /// them.
+    pub(crate) fn keeps(self, cost: u32, end: u32) -> u32
+        ensures within { result ≤ end }
+        ensures taken { (code : ℕ) → code < end → (result ≤ code) ↔ Takes self cost code }
     {
         match self {
-            Cut::Every => true,
-            Cut::Nothing => false,
-            Cut::Above(limit, tie) => limit < cost || limit == cost && tie <= code,
+            Cut::Every => 0,
+            Cut::Nothing => end,
+            Cut::Above(limit, tie) => {
+                if cost < limit {
+                    end
+                } else if cost == limit {
+                    tie.min(end)
+                } else {
+                    0
+                }
+            }
         }
     }
 

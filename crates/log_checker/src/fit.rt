@@ -1,19 +1,19 @@
 //! The fit of a side.
-ghost use Rattle.std.specs.Prelude.{◌≡◌, ◌<◌, All, None, Option, MatchOption, Some, ℕ, if◌then◌else◌, nat_le};
+ghost use Rattle.std.specs.Prelude.{◌≡◌, ◌<◌, ◌≤◌, All, None, Option, MatchOption, Some, length, ℕ, if◌then◌else◌, nat_le};
 ghost use Rattle.plan_rule.specs.Choices.{blocks};
 ghost use Rattle.plan_rule.specs.Boxes.{IsBox};
 ghost use Rattle.plan_rule.specs.Bounds.{IsFit, Refutes};
 ghost use Rattle.plan_rule.specs.Yards.{choices};
 ghost use Rattle.log_checker.specs.Claims.{IsClaim, plan_of};
-ghost use Rattle.log_checker.specs.FixedBlocks.{AreFixed, IsStanding};
+ghost use Rattle.log_checker.specs.ExactBlocks.{AreExact, IsStanding};
 ghost use Rattle.log_checker.specs.Leasts.{IsFitUpTo, IsLeastFit};
 
 use crate::base::base;
 use crate::claim::Claim;
-use crate::fixed::{Fixed, fixed_of};
+use crate::exact::{Exact, exact_of};
 use crate::free::least_free;
 use crate::refute::fault;
-use crate::rest::{fixed_in, least_in};
+use crate::rest::{exact_in, least_in};
 use code_table::Codes;
 use plan_rule::{PlanBox, block_count};
 
@@ -25,16 +25,17 @@ fn up_to(cost: u32, limit: u32) -> Option<u32>
 }
 
 /// The least own cost of the block's codes that fit the side, where it is at most the limit.
-fn least_fit(codes: &Codes, side: &PlanBox, fixed: &[Fixed], block: u8, limit: u32) -> Option<u32>
+fn least_fit(codes: &Codes, side: &PlanBox, exacts: &[Exact], block: u8, limit: u32) -> Option<u32>
     requires side { IsBox (choices codes.now) side.now }
-    requires fixed { AreFixed codes.now side.now fixed.now }
-    requires standing { All (IsStanding codes.now) fixed.now }
+    requires exacts { AreExact codes.now side.now exacts.now }
+    requires few { length exacts.now ≤ 32 }
+    requires standing { All (IsStanding codes.now) exacts.now }
     requires block { block < blocks (choices codes.now) }
     ensures { IsLeastFit (choices codes.now) side.now block limit result }
 {
-    match fixed_in(side, block) {
+    match exact_in(side, block) {
         Some(code) => up_to(codes.own_cost(block, code), limit),
-        None => least_free(codes, fixed, block, limit),
+        None => least_free(codes, exacts, block, limit),
     }
 }
 
@@ -45,13 +46,13 @@ fn fit(codes: &Codes, side: &PlanBox, limit: u32) -> Option<u32>
     ensures { IsFitUpTo (choices codes.now) side.now limit result }
 {
     let mut rest = base(codes, side)?;
-    let fixed = fixed_of(codes, side);
-    let fixed = fixed.as_slice();
+    let exacts = exact_of(codes, side);
+    let exacts = exacts.as_slice();
     let mut sum = 0;
     for block in 0..block_count(codes) {
         rest -= least_in(codes, side, block)?;
         let left = limit.checked_sub(sum + rest)?;
-        sum += least_fit(codes, side, fixed, block, left)?;
+        sum += least_fit(codes, side, exacts, block, left)?;
     }
     Some(sum)
 }

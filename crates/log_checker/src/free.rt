@@ -1,14 +1,17 @@
-//! The codes of a block at which it meets no fixed block.
-ghost use Rattle.std.specs.Prelude.{◌≡◌, ◌+◌, ◌≤◌, ◌<◌, All, Some, slice_get};
+//! The codes of a block at which it clashes with no exact block and meets no piece.
+ghost use Rattle.std.specs.Prelude.{◌≡◌, ◌≤◌, ◌<◌, All, length};
 ghost use Rattle.code_table.specs.Placements.{placements};
-ghost use Rattle.plan_rule.specs.Choices.{IsCode, blocks};
+ghost use Rattle.code_table.specs.Stretches.{IsStretch};
+ghost use Rattle.plan_rule.specs.Choices.{blocks};
 ghost use Rattle.plan_rule.specs.Yards.{choices};
-ghost use Rattle.log_checker.specs.FixedBlocks.{IsStanding};
+ghost use Rattle.log_checker.specs.ExactBlocks.{IsStanding};
 ghost use Rattle.log_checker.specs.Leasts.{IsLeastClear, IsLeastClearBelow, is_better};
 
+use crate::block::cost_at;
 use crate::cut::least_from;
-use crate::fixed::{Fixed, meets_one};
-use code_table::{Codes, Placement};
+use crate::exact::Exact;
+use crate::walk::Walk;
+use code_table::{Codes, Stretch};
 
 /// Whether a cost is at most the limit, and below the best one so far, if there is one.
 fn is_better(cost: u32, best: Option<u32>, limit: u32) -> bool
@@ -20,53 +23,67 @@ fn is_better(cost: u32, best: Option<u32>, limit: u32) -> bool
     }
 }
 
-/// The best cost so far, or that of the code, where it is better and its placement meets no fixed block.
-fn with_code(
+/// The best cost so far, or that of the stretch's codes, where it is better and nothing hinders the block at one of them
+/// from `from` on.
+fn with_stretch(
     codes: &Codes,
-    fixed: &[Fixed],
+    exacts: &[Exact],
     block: u8,
-    code: u32,
-    place: Placement,
+    stretch: Stretch,
+    from: u32,
     limit: u32,
     best: Option<u32>,
 ) -> Option<u32>
-    requires code { IsCode (choices codes.now) block code }
-    requires place { slice_get (placements codes.now block) code ≡ Some place }
-    requires turn { place.turn < 4 }
-    requires x { place.x ≤ 400 }
-    requires y { place.y ≤ 400 }
-    requires standing { All (IsStanding codes.now) fixed.now }
-    requires best { IsLeastClearBelow codes.now fixed.now block code limit best }
-    ensures { IsLeastClearBelow codes.now fixed.now block (code + 1) limit result }
+    requires block { block < blocks (choices codes.now) }
+    requires stretch { IsStretch (placements codes.now block) stretch }
+    requires end { stretch.place.end < codes.now.days }
+    requires from { stretch.lo ≤ from }
+    requires some { from < stretch.hi }
+    requires few { length exacts.now ≤ 32 }
+    requires standing { All (IsStanding codes.now) exacts.now }
+    requires best { IsLeastClearBelow codes.now exacts.now block from limit best }
+    ensures { IsLeastClearBelow codes.now exacts.now block stretch.hi limit result }
 {
-    let cost = codes.own_cost(block, code);
+    let cost = cost_at(codes, block, stretch.place.end);
     if !is_better(cost, best, limit) {
         return best;
     }
-    if meets_one(codes, fixed, block, place) {
-        return best;
+    let start = Walk {
+        passed: 0,
+        code: from,
+    };
+    let found = start.to_clear(codes, block, stretch, stretch.hi, exacts, &[]);
+    if found.code < stretch.hi {
+        Some(cost)
+    } else {
+        best
     }
-    Some(cost)
 }
 
-/// The least own cost, where it is at most the limit, of the codes at which the block meets no fixed block. The walk
-/// ends where the block's least own cost, or the start that it has come to, shows that no later code is better.
+/// The least own cost, where it is at most the limit, of the codes at which the block clashes with no exact block and meets
+/// no piece. The codes of one start, plate and turn have one cost, so that they are asked only where it is better, and
+/// no further than to the first one. The walk ends where the block's least own cost, or the start that it has come to,
+/// shows that no later code is better.
 #[tactic(auto, using(plan_rule::proofs::CountLaws::counts))]
-pub(crate) fn least_free(codes: &Codes, fixed: &[Fixed], block: u8, limit: u32) -> Option<u32>
+pub(crate) fn least_free(codes: &Codes, exacts: &[Exact], block: u8, limit: u32) -> Option<u32>
     requires block { block < blocks (choices codes.now) }
-    requires standing { All (IsStanding codes.now) fixed.now }
-    ensures { IsLeastClear codes.now fixed.now block limit result }
+    requires few { length exacts.now ≤ 32 }
+    requires standing { All (IsStanding codes.now) exacts.now }
+    ensures { IsLeastClear codes.now exacts.now block limit result }
 {
     codes.codes_ascend(block);
     let least = codes.least_cost(block)?;
+    let count = codes.count(block);
     let mut best = None;
-    for code in 0..codes.count(block) {
-        let place = codes.place(block, code);
-        let floor = least.max(least_from(codes, block, place.start));
+    let mut code = 0;
+    while code < count {
+        let stretch = codes.stretch(block, code);
+        let floor = least.max(least_from(codes, block, stretch.place.start));
         if !is_better(floor, best, limit) {
             return best;
         }
-        best = with_code(codes, fixed, block, code, place, limit, best);
+        best = with_stretch(codes, exacts, block, stretch, code, limit, best);
+        code = stretch.hi;
     }
     best
 }

@@ -6,7 +6,7 @@ ghost use Rattle.plan_rule.specs.Yards.{choices};
 ghost use Rattle.refutation_log.specs.Steps.{IsAccepted, result_of};
 ghost use Rattle.log_checker.specs.Claims.{IsClaim, plan_of};
 ghost use Rattle.log_checker.specs.Forms.{HasForm, IsOverAll};
-ghost use Rattle.log_checker.specs.Verdicts.{EndsEmpty, HasClash, IsVerdict};
+ghost use Rattle.log_checker.specs.Verdicts.{EndsEmpty, IsVerdict, RefusesAll};
 ghost use Rattle.log_checker.specs.declared.verdict.Verdict.TheVariants.{Accepted};
 
 use crate::claim::{Claim, claim_of};
@@ -14,7 +14,7 @@ use crate::form::count_of;
 use crate::steps::first_fault;
 use crate::{Refused, Verdict};
 use code_table::Codes;
-use plan_rule::{Plan, PlanBox, first_clash};
+use plan_rule::{Plan, PlanBox, first_clash, first_met};
 use refutation_log::{Log, Record};
 use shape_exact::NoMemory;
 use std::alloc::Global;
@@ -77,20 +77,25 @@ fn verdict_of(
     Ok(Verdict::Refused(Refused::NotEmpty))
 }
 
-/// The first pair of blocks whose codes in the plan clash; None where there is no plan, or it is feasible.
-fn clash_of(codes: &Codes, plan: Option<&Plan>) -> Option<(u8, u8)>
+/// Why the plan may not stand, whatever the log: its first clash, or where there is none its first meeting with an exact
+/// piece; None where there is no plan, or it is feasible.
+fn plan_fault(codes: &Codes, plan: Option<&Plan>) -> Option<Refused>
     requires { IfSome plan (λ p. IsPlan (choices codes.now) p.now) }
     ensures { MatchOption result (IsAnswer (choices codes.now) (option_map (λ p. p.now) plan.entry))
-        (λ pair. HasClash (choices codes.now) (option_map (λ p. p.now) plan.entry) pair.0 pair.1) }
+        (RefusesAll (choices codes.now) (option_map (λ p. p.now) plan.entry)) }
 {
-    match plan {
-        Some(plan) => first_clash(codes, plan),
-        None => None,
+    let plan = plan?;
+    if let Some((a, b)) = first_clash(codes, plan) {
+        return Some(Refused::PlanNotFeasible(a, b));
     }
+    if let Some((block, piece)) = first_met(codes, plan) {
+        return Some(Refused::PlanMeetsFixed(block, piece));
+    }
+    None
 }
 
 /// Whether the log shows that the plan is the best, or where there is none that no plan is feasible; and if not, the
-/// first reason why it does not: a clash in the plan, then the first record that is no step, by its form, its citations
+/// first reason why it does not: a clash in the plan, then a meeting of the plan with a fixed piece, then the first record that is no step, by its form, its citations
 /// and what it should show, then that the last record does not refute every plan.
 ///
 /// Nothing is asked of who wrote the log. The only answer beside a verdict is want of memory.
@@ -109,8 +114,8 @@ pub fn check(
         (λ v. v ≡ Accepted → IsBest (choices codes.now) (option_map (λ p. p.now) plan.entry)) }
 {
     let _yard = codes.yard();
-    if let Some((a, b)) = clash_of(codes, plan) {
-        return Ok(Verdict::Refused(Refused::PlanNotFeasible(a, b)));
+    if let Some(refused) = plan_fault(codes, plan) {
+        return Ok(Verdict::Refused(refused));
     }
     verdict_of(alloc, codes, claim_of(codes, plan), log.records())
 }

@@ -1,69 +1,106 @@
-//! The fixed blocks that may meet the placements of one span of days on one plate.
-ghost use Rattle.std.specs.Prelude.{◌≡◌, ◌≤◌, ◌↔◌, IsTrue, length};
-ghost use Rattle.log_checker.specs.FixedBlocks.{HaveOneSpan, IsNear};
+//! What stands near a placement: the exact blocks and the fixed pieces that are on its plate on some of its days.
+ghost use Rattle.std.specs.Prelude.{◌≡◌, ℕ, ◌<◌, ◌≤◌, ◌↔◌, ◌⊎◌, All, IsTrue, length};
+ghost use Rattle.log_checker.specs.ExactBlocks.{ClashesWithOne, IsNear, IsStanding};
+ghost use Rattle.log_checker.specs.NearPieces.{AreNear, MeetsAt, MeetsOne};
 
-use crate::fixed::Fixed;
+use crate::exact::{Exact, clashes_with_one};
 use arrayvec::ArrayVec;
-use code_table::Placement;
-use plan_rule::may_meet;
+use code_table::{Codes, Placement};
+use plan_rule::{may_clash, may_meet_piece, meets_piece};
 
-/// The fixed blocks near a placement: those that are on its plate on some of its days.
+/// What is near a placement. No other exact block clashes with it and no other piece is met there: a placement of the same
+/// plate and days has the same near ones.
 #[derive(Drop)]
 pub(crate) struct Near {
-    at: Placement,
-    list: ArrayVec<Fixed, 32>,
+    exacts: ArrayVec<Exact, 32>,
+    /// The pieces by number.
+    pieces: ArrayVec<u8, 48>,
 }
 
-/// The fixed blocks that are on the placement's plate on some of its days.
-fn near_to(fixed: &[Fixed], place: Placement) -> ArrayVec<Fixed, 32>
-    requires { length fixed.now ≤ 32 }
-    ensures { IsNear place fixed.now result.items }
+/// The exact blocks that are on the placement's plate on some of its days.
+fn exacts_near(exacts: &[Exact], place: Placement) -> ArrayVec<Exact, 32>
+    requires { length exacts.now ≤ 32 }
+    ensures { IsNear place exacts.now result.items }
 {
     let mut list = ArrayVec::new();
-    for f in fixed {
-        if may_meet(f.place, place) {
+    for f in exacts {
+        if may_clash(f.place, place) {
             list.push(*f);
         }
     }
     list
 }
 
-/// Whether two placements are on one plate from the same day to the same day.
-fn have_one_span(one: Placement, two: Placement) -> bool
-    ensures { IsTrue result ↔ HaveOneSpan one two }
+/// The pieces that are on the placement's plate on some of its days.
+fn pieces_near(codes: &Codes, place: Placement) -> ArrayVec<u8, 48>
+    ensures { AreNear codes.now place result.items }
 {
-    one.plate == two.plate && one.start == two.start && one.end == two.end
+    let mut list = ArrayVec::new();
+    for (i, piece) in codes.yard().fixed().iter().enumerate() {
+        if may_meet_piece(place, piece) {
+            list.push(i as u8);
+        }
+    }
+    list
+}
+
+/// Whether a block at a placement meets the piece with this number.
+fn meets_at(codes: &Codes, piece: u8, block: u8, place: Placement) -> bool
+    requires piece { piece < length codes.now.fixed }
+    requires block { block < length codes.now.blocks }
+    requires turn { place.turn < 4 }
+    requires x { place.x ≤ 400 }
+    requires y { place.y ≤ 400 }
+    ensures { IsTrue result ↔ MeetsAt codes.now block place piece }
+{
+    let pieces = codes.yard().fixed();
+    let fixed = &pieces[piece as usize];
+    meets_piece(codes, block, place, fixed)
+}
+
+/// Whether a block at a placement meets one of these pieces.
+fn meets_one(codes: &Codes, pieces: &[u8], block: u8, place: Placement) -> bool
+    requires pieces { All (λ i. i < length codes.now.fixed) pieces.now }
+    requires block { block < length codes.now.blocks }
+    requires turn { place.turn < 4 }
+    requires x { place.x ≤ 400 }
+    requires y { place.y ≤ 400 }
+    ensures { IsTrue result ↔ MeetsOne codes.now pieces.now block place }
+{
+    for piece in pieces {
+        if meets_at(codes, *piece, block, place) {
+            return true;
+        }
+    }
+    false
 }
 
 impl Near {
-    /// The fixed blocks near the placement.
-    pub(crate) fn of(fixed: &[Fixed], place: Placement) -> Near
-        requires { length fixed.now ≤ 32 }
-        ensures { IsNear result.at fixed.now result.list.items }
+    /// What is near the placement.
+    pub(crate) fn of(codes: &Codes, exacts: &[Exact], place: Placement) -> Near
+        requires { length exacts.now ≤ 32 }
+        ensures exacts { IsNear place exacts.now result.exacts.items }
+        ensures pieces { AreNear codes.now place result.pieces.items }
     {
         Near {
-            at: place,
-            list: near_to(fixed, place),
+            exacts: exacts_near(exacts, place),
+            pieces: pieces_near(codes, place),
         }
     }
 
-    /// Turns to the fixed blocks near another placement. Those of one span on one plate have the same ones.
-    pub(crate) fn turn_to(&mut self, fixed: &[Fixed], place: Placement)
-        requires few { length fixed.now ≤ 32 }
-        requires near { IsNear self.old.at fixed.now self.old.list.items }
-        ensures kept { IsNear self.new.at fixed.now self.new.list.items }
-        ensures near { IsNear place fixed.now self.new.list.items }
+    /// Whether something hinders a block at a placement: an exact block that clashes with it there, or a piece that it
+    /// meets.
+    pub(crate) fn hinders(&self, codes: &Codes, block: u8, place: Placement) -> bool
+        requires standing { All (IsStanding codes.now) self.now.exacts.items }
+        requires pieces { All (λ i. i < length codes.now.fixed) self.now.pieces.items }
+        requires block { block < length codes.now.blocks }
+        requires turn { place.turn < 4 }
+        requires x { place.x ≤ 400 }
+        requires y { place.y ≤ 400 }
+        ensures { IsTrue result
+            ↔ (ClashesWithOne codes.now self.now.exacts.items block place ⊎ MeetsOne codes.now self.now.pieces.items block place) }
     {
-        if !have_one_span(self.at, place) {
-            self.at = place;
-            self.list = near_to(fixed, place);
-        }
-    }
-
-    /// The fixed blocks that are near.
-    pub(crate) fn list(&self) -> &[Fixed]
-        ensures { result.now ≡ self.now.list.items }
-    {
-        self.list.as_slice()
+        clashes_with_one(codes, self.exacts.as_slice(), block, place)
+            || meets_one(codes, self.pieces.as_slice(), block, place)
     }
 }

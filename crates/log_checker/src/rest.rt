@@ -1,7 +1,7 @@
 //! What the blocks other than one cost at least beside a side.
 ghost use Rattle.std.specs.Prelude.{◌≡◌, ◌+◌, ◌≤◌, ◌<◌, ◌==◌, if◌then◌else◌, IfSome};
 ghost use Rattle.plan_rule.specs.Bounds.{IsLeastOf, MayTake};
-ghost use Rattle.plan_rule.specs.Boxes.{IsBox, fixed_code};
+ghost use Rattle.plan_rule.specs.Boxes.{IsBox, exact_code};
 ghost use Rattle.plan_rule.specs.Choices.{blocks};
 ghost use Rattle.plan_rule.specs.Yards.{choices};
 ghost use Rattle.log_checker.specs.Cuts.{IsRest};
@@ -18,8 +18,8 @@ fn only_code(l: Literal) -> Option<u32>
 }
 
 /// The code to which the box fixes a block. None where it does not.
-pub(crate) fn fixed_in(side: &PlanBox, block: u8) -> Option<u32>
-    ensures { result ≡ fixed_code side.now block }
+pub(crate) fn exact_in(side: &PlanBox, block: u8) -> Option<u32>
+    ensures { result ≡ exact_code side.now block }
 {
     for l in side.literals() {
         if l.block == block {
@@ -38,7 +38,7 @@ pub(crate) fn least_in(codes: &Codes, side: &PlanBox, block: u8) -> Option<u32>
     ensures least { IsLeastOf (MayTake (choices codes.now) side.now block) ((choices codes.now).cost block) result }
     ensures few { IfSome result (λ cost. cost ≤ 400000) }
 {
-    match fixed_in(side, block) {
+    match exact_in(side, block) {
         Some(code) => Some(codes.own_cost(block, code)),
         None => codes.least_cost(block),
     }

@@ -30,6 +30,8 @@ pub enum Refused {
     /// This record names a block, a range of codes or a window that does not exist, or its side is no box or has a
     /// literal on the branched block.
     BadForm(u64),
+    /// The plan's code of this block meets that fixed piece.
+    PlanMeetsFixed(u8, u8),
 }
 
 impl Refused {
@@ -53,6 +55,11 @@ impl Refused {
             Refused::NotEmpty => Ok(format!(in alloc; "not certified 5 NotEmpty\n")?.into_bytes()),
             Refused::BadForm(step) => {
                 Ok(format!(in alloc; "not certified 6 BadForm {step}\n")?.into_bytes())
+            }
+            Refused::PlanMeetsFixed(block, piece) => {
+                Ok(format!(in alloc;
+                    "not certified 7 PlanMeetsFixed {block} {piece}\n"
+                )?.into_bytes())
             }
         }
     }

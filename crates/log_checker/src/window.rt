@@ -3,13 +3,15 @@ ghost use Rattle.std.specs.Prelude.{◌≡◌, ℕ, ◌<◌, ◌^◌, ◌↔◌,
 ghost use Rattle.plan_rule.specs.Choices.{IsCode, blocks};
 ghost use Rattle.plan_rule.specs.Boxes.{IsBox};
 ghost use Rattle.plan_rule.specs.Bounds.{presses, demand, used};
-ghost use Rattle.plan_rule.specs.Yards.{choices};
+ghost use Rattle.shape_exact.specs.Yards.{IsPiece};
+ghost use Rattle.plan_rule.specs.Yards.{choices, stood_by};
 ghost use Rattle.log_checker.specs.Windows.{HasRoom, plate_room, used_by, work_in};
 
 use crate::block::block_at;
-use crate::rest::fixed_in;
+use crate::rest::exact_in;
 use code_table::Codes;
 use plan_rule::{PlanBox, block_count};
+use shape_exact::Fixed;
 
 /// The days from `from` to `to`, both included.
 #[derive(Clone, Copy, PartialEq, Eq, Debug)]
@@ -61,19 +63,43 @@ fn used_by(codes: &Codes, side: &PlanBox, window: Window, block: u8) -> u64
     ensures value { result ≡ used_by (choices codes.now) side.now window.from window.to block }
     ensures few { result < 2 ^ 48 }
 {
-    match fixed_in(side, block) {
+    match exact_in(side, block) {
         Some(code) => taken(codes, window, block, code),
         None => 0,
     }
 }
 
-/// What the fixed codes take in the window.
+/// What a piece takes in the window: its cells, once for each open day of its plate on which it stands there.
+fn stood_by(codes: &Codes, window: Window, piece: &Fixed) -> u64
+    requires { IsPiece codes.now.days codes.now.plates piece.now }
+    ensures value { result ≡ stood_by codes.now window.from window.to piece.now }
+    ensures few { result < 2 ^ 48 }
+{
+    let first = window.from.max(piece.from);
+    let last = window.to.min(piece.to);
+    let days = codes.calendar(piece.plate).open_between(first, last);
+    u64::from(days) * u64::from(piece.shape.cells())
+}
+
+/// What the pieces take in the window.
+fn standing(codes: &Codes, window: Window) -> u64
+    ensures value { result ≡ (choices codes.now).standing window.from window.to }
+    ensures few { result < 2 ^ 55 }
+{
+    let mut sum = 0;
+    for piece in codes.yard().fixed() {
+        sum += stood_by(codes, window, piece);
+    }
+    sum
+}
+
+/// What the pieces and the exact codes take in the window.
 fn used(codes: &Codes, side: &PlanBox, window: Window) -> u64
     requires { IsBox (choices codes.now) side.now }
     ensures value { result ≡ used (choices codes.now) side.now window.from window.to }
-    ensures few { result < 2 ^ 56 }
+    ensures few { result < 2 ^ 57 }
 {
-    let mut sum = 0;
+    let mut sum = standing(codes, window);
     for block in 0..block_count(codes) {
         sum += used_by(codes, side, window, block);
     }
@@ -85,7 +111,7 @@ pub(crate) fn presses(codes: &Codes, side: &PlanBox, window: Window, block: u8) 
     requires { block < blocks (choices codes.now) }
     ensures { result ≡ presses (choices codes.now) side.now window.from window.to block }
 {
-    if fixed_in(side, block).is_some() {
+    if exact_in(side, block).is_some() {
         return false;
     }
     let data = block_at(codes, block);
@@ -117,7 +143,7 @@ fn demand(codes: &Codes, side: &PlanBox, window: Window) -> u64
     sum
 }
 
-/// Whether the window has room for the work of the blocks that press, beside what the fixed codes take.
+/// Whether the window has room for the work of the blocks that press, beside what the exact codes take.
 pub(crate) fn has_room(codes: &Codes, side: &PlanBox, window: Window) -> bool
     requires { IsBox (choices codes.now) side.now }
     ensures { IsTrue result ↔ HasRoom (choices codes.now) side.now window.from window.to }

@@ -2,10 +2,10 @@
 use Rattle.std.proofs.Common.{◌≡◌, ℕ, zero, suc, ◌+◌, ◌<◌, ◌≤◌, List, [], ◌∷◌, ◌++◌, length, refl, sym, ap, ◌∙◌, subst, inl, inr, arith, length-append}
 use Rattle.std.proofs.lemmas.Bool.{cases_lt}
 use Rattle.std.proofs.lemmas.List.{get_or_append_left, get_or_push, get_or_past}
-use Rattle.plan_rule.specs.Choices.{Choices, blocks, count}
+use Rattle.plan_rule.specs.Choices.{Choices, MeetsSome, blocks, count}
 use Rattle.plan_rule.specs.Plans.{code_of, IsPlan, total, IsLexLess, IsBefore, Extends}
 use Rattle.plan_rule.proofs.OrderLaws.{lex_trans}
-use Rattle.plain_search.specs.Fronts.{cost_below, IsFront, IsFloor}
+use Rattle.plain_search.specs.Fronts.{cost_below, IsFront, IsClear, IsFloor}
 
 pub old_code : (front : List ℕ) (code b : ℕ) → b < length front → code_of (front ++ code ∷ []) b ≡ code_of front b
 old_code front code b l = get_or_append_left front (code ∷ []) 0 b l
@@ -13,9 +13,9 @@ old_code front code b l = get_or_append_left front (code ∷ []) 0 b l
 pub new_code : (front : List ℕ) (code b : ℕ) → b ≡ length front → code_of (front ++ code ∷ []) b ≡ code
 new_code front code b e = get_or_push front code 0 b (sym e)
 
--- a code more that clashes with none before it
+-- a code more that clashes with none before it, and meets no piece
 pub front_more : (c : Choices) (front : List ℕ) (code : ℕ) → IsFront c front → length front < blocks c → code < count c (length front)
-    → ((a : ℕ) → a < length front → c.Clash a (code_of front a) (length front) code → ⊥) → IsFront c (front ++ code ∷ [])
+    → IsClear c front code → IsFront c (front ++ code ∷ [])
 front_more c front code h l m free =
     let n = length-append front (code ∷ []) in
     record {
@@ -33,10 +33,17 @@ front_more c front code h l m free =
             (subst (λ y. c.Clash a (code_of (front ++ code ∷ []) a) b y) (old_code front code b below) clash))
         | inr last ↦
             let e : b ≡ length front = omega arith in
-            free a (omega arith)
+            free.apart a (omega arith)
             (subst (λ x. c.Clash a x (length front) code) (old_code front code a (omega arith))
             (subst (λ y. c.Clash a (code_of (front ++ code ∷ []) a) (length front) y) (new_code front code (length front) refl)
             (subst (λ b. c.Clash a (code_of (front ++ code ∷ []) a) b (code_of (front ++ code ∷ []) b)) e clash)))
+      ];
+      unmet = λ b j meets. elim (cases_lt b (length front)) [
+        | inl below ↦ h.unmet b below (subst (λ x. MeetsSome c b x) (old_code front code b below) meets)
+        | inr last ↦
+            let e : b ≡ length front = omega arith in
+            free.unmet (subst (λ x. MeetsSome c (length front) x) (new_code front code (length front) refl)
+            (subst (λ b. MeetsSome c b (code_of (front ++ code ∷ []) b)) e meets))
       ];
     }
 

@@ -7,8 +7,9 @@ use Rattle.shape_exact.specs.Yards.{PlainYard}
 use Rattle.code_table.specs.Placements.{own_cost, placements}
 use Rattle.plan_rule.proofs.CountLaws.{count-length, block_exists}
 use Rattle.plan_rule.specs.Yards.{choices}
-use Rattle.plan_rule.specs.Choices.{Choices, blocks, count}
+use Rattle.plan_rule.specs.Choices.{Choices, MeetsSome, blocks, count}
 use Rattle.plan_rule.specs.Plans.{code_of, IsFeasible}
+use Rattle.plan_rule.specs.Pieces.{IsFirstMet}
 use Rattle.plain_search.specs.declared.hand.Hand.{Hand}
 use Rattle.plain_search.specs.Fronts.{cost_below, IsFront, IsClear, IsFloor, AreTails}
 use Rattle.plain_search.specs.Hands.{can_beat, Searched}
@@ -86,6 +87,7 @@ whole_front c front mutual_clash f e = record {
       | inr k ↦ f.clear b a k (omega arith) (mutual_clash a (code_of front a) b (code_of front b) clash)
     ]
   ];
+  unmet = λ b l. f.unmet b (omega arith);
 }
 
 -- what a code costs, at the number of the block
@@ -109,3 +111,18 @@ popped next front code n s e =
     let m = length_more front code in
     let k : n - 1 ≡ length front = let l : length next ≡ length front + 1 = ap length s ∙ m in omega arith in
     ap (λ i. take i next) k ∙ ap (λ xs. take (length front) xs) s ∙ take-append_seam front (code ∷ [])
+
+-- a code of the next block that clashes with none of the front, and meets no piece
+pub clear_now : (yard : PlainYard) (front : List ℕ) (b code : ℕ) → b ≡ length front
+    → ((a : ℕ) → a < b → (choices yard).Clash a (code_of front a) b code → ⊥) → (MeetsSome (choices yard) b code → ⊥) → IsClear (choices yard) front code
+clear_now yard front b code e apart unmet = record {
+  apart = λ a l clash. apart a (omega arith) (subst (λ b. (choices yard).Clash a (code_of front a) b code) (sym e) clash);
+  unmet = λ meets. unmet (subst (λ b. MeetsSome (choices yard) b code) (sym e) meets);
+}
+
+first_meets : (yard : PlainYard) (b code i : ℕ) → IsFirstMet (choices yard) b code i → MeetsSome (choices yard) b code
+first_meets yard b code i m = (i, m.meets)
+
+-- one that meets a piece
+pub not_clear : (yard : PlainYard) (front : List ℕ) (b code i : ℕ) → b ≡ length front → IsFirstMet (choices yard) b code i → IsClear (choices yard) front code → ⊥
+not_clear yard front b code i e m h = h.unmet (subst (λ b. MeetsSome (choices yard) b code) e (first_meets yard b code i m))

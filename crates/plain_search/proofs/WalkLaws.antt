@@ -2,7 +2,7 @@
 use Rattle.std.proofs.Common.{◌≡◌, ◌≢◌, ℕ, ◌+◌, ◌<◌, ◌≤◌, Bool, true, false, List, [], ◌∷◌, ◌++◌, length, Option, Some, None, ◌⊎◌, refl, sym, ap, ◌∙◌, subst, inl, inr, arith, length-append}
 use Rattle.std.proofs.lemmas.Bool.{cases_lt, cases_order, ltb-true, ltb-false}
 use Rattle.std.specs.Prelude.{IsTrue}
-use Rattle.plan_rule.specs.Choices.{Choices, blocks, count}
+use Rattle.plan_rule.specs.Choices.{Choices, MeetsSome, blocks, count}
 use Rattle.plan_rule.specs.Plans.{code_of, IsFeasible, total, IsNotBefore, Extends, IsLeastOn, Improves}
 use Rattle.plan_rule.proofs.SearchLaws.{children_cover, leaf_takes, improves_first, improves_takes, child}
 use Rattle.plain_search.specs.declared.hand.Hand.{Hand}
@@ -131,15 +131,19 @@ walk_stops c front old new code sum floor w e least no_better = record {
   from = w.from;
 }
 
--- a feasible plan's next code clashes with none of its front
+-- a feasible plan's next code clashes with none of its front, and meets no piece
 clear_in : (c : Choices) (front q : List ℕ) (code : ℕ) → length front < blocks c → IsFeasible c q → Extends (front ++ code ∷ []) q → IsClear c front code
-clear_in c front q code l f x a m clash =
+clear_in c front q code l f x =
     let n = length-append front (code ∷ []) in
-    let ne : a ≢ length front = λ e. absurd (omega arith) in
-    let old : code_of front a ≡ code_of q a = sym (old_code front code a m) ∙ x a (omega arith) in
     let new : code ≡ code_of q (length front) = sym (new_code front code (length front) refl) ∙ x (length front) (omega arith) in
-    f.clear a (length front) (omega arith) l ne
-    (subst (λ k. c.Clash a (code_of q a) (length front) k) new (subst (λ k. c.Clash a k (length front) code) old clash))
+    record {
+      apart = λ a m clash.
+          let ne : a ≢ length front = λ e. absurd (omega arith) in
+          let old : code_of front a ≡ code_of q a = sym (old_code front code a m) ∙ x a (omega arith) in
+          f.clear a (length front) (omega arith) l ne
+          (subst (λ k. c.Clash a (code_of q a) (length front) k) new (subst (λ k. c.Clash a k (length front) code) old clash));
+      unmet = λ meets. f.unmet (length front) l (subst (λ k. MeetsSome c (length front) k) new meets);
+    }
 
 -- a code that clashes with one before it, or with which no plan can cost less than the plan in hand
 pub idle_skips : (c : Choices) (front : List ℕ) (hand : Option Hand) (code sum floor : ℕ) (better : Bool) → length front < blocks c

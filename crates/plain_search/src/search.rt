@@ -7,11 +7,11 @@ ghost use Rattle.plain_search.specs.Hands.{can_beat, IsKept, IsEarlier, Searched
 
 use crate::hand::{Hand, can_beat};
 use code_table::Codes;
-use plan_rule::{Plan, block_count, clash};
+use plan_rule::{Plan, block_count, clash, meets};
 use shape_exact::NoMemory;
 use std::alloc::Global;
 
-/// Whether a code of the next block clashes with none of the front.
+/// Whether a code of the next block clashes with none of the front, and meets no fixed piece.
 fn is_clear(codes: &Codes, front: &[u32], block: u8, code: u32) -> bool
     requires front { IsFront (choices codes.now) front.now }
     requires block { block ≡ length front.now }
@@ -23,11 +23,14 @@ fn is_clear(codes: &Codes, front: &[u32], block: u8, code: u32) -> bool
             return false;
         }
     }
-    true
+    match meets(codes, block, code) {
+        Some(_) => false,
+        None => true,
+    }
 }
 
-/// Whether the front with this code of the next block may lead to a better plan than the one in hand: no code clashes,
-/// and `bound`, the least that a plan with this front costs, is below the total of the plan in hand.
+/// Whether the front with this code of the next block may lead to a better plan than the one in hand: no code clashes
+/// or meets a piece, and `bound`, the least that a plan with this front costs, is below the total of the plan in hand.
 fn may_lead(
     codes: &Codes,
     front: &[u32],

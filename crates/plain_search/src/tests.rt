@@ -1,5 +1,7 @@
 //! The best plans of small yards, worked by hand.
 
+mod pieces;
+
 use crate::best_plan;
 use code_table::{Codes, placement_count};
 use shape_exact::{NoMemory, Yard};

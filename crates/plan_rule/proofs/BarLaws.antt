@@ -17,7 +17,7 @@ pub refutes_within : (c : Choices) (t : Option (List ℕ)) (box : List Literal) 
 refutes_within c t box None bar w f a = tt
 refutes_within c None box (Some k) bar w f a = absurd (omega arith)
 refutes_within c (Some p) box (Some k) bar w f a =
-    let h = le-div (total c p) bar (2 ^ 32) (omega arith) (omega arith) in inl (omega arith)
+    let low = w.1 in let h = le-div (total c p) bar (2 ^ 32) (omega arith) (omega arith) in inl (omega arith)
 
 -- a plan that the bound does not exceed has a key above the bar
 pub key_above : (c : Choices) (q : List ℕ) (r : Option ℕ) (bar : ℕ) → IsAtMost r (total c q) → IsAboveBar r bar → bar < key c q

@@ -7,9 +7,9 @@ use Rattle.std.proofs.lemmas.Option.{none-some, same_Some, slice_get-get_or, sli
 use Rattle.std.proofs.lemmas.List.Elements.{All-contains, All-contains_itself}
 use Rattle.plan_rule.specs.declared.literal.Literal.{Literal}
 use Rattle.plan_rule.specs.Plans.{code_of}
-use Rattle.plan_rule.specs.Boxes.{IsAscending, AreAmong, Fixes, fixed_code, exact}
+use Rattle.plan_rule.specs.Boxes.{IsAscending, AreAmong, HasExact, exact_code, exact}
 use Rattle.plan_rule.specs.Bounds.{IsBehindOn}
-use Rattle.plan_rule.proofs.BoundLaws.{fixed-all}
+use Rattle.plan_rule.proofs.BoundLaws.{exact-all}
 
 -- the first i literals fix the first i blocks to the plan's codes
 abbrev pub Agrees : List Literal → List ℕ → ℕ → Type 0
@@ -25,22 +25,22 @@ other_block true x o e = absurd (true≢false e)
 other_block false x o e = refl
 
 -- a literal of one code fixes its block
-pub fixes_at : (box : List Literal) (k b code : ℕ) → IsAscending box → slice_get box k ≡ Some (exact b code) → Fixes box b code
+pub fixes_at : (box : List Literal) (k b code : ℕ) → IsAscending box → slice_get box k ≡ Some (exact b code) → HasExact box b code
 fixes_at [] k b code up e = absurd (none-some (exact b code) e)
 fixes_at (l ∷ box) zero b code up e =
-    subst (λ l. Fixes (l ∷ box) b code) (sym (same_Some l (exact b code) e))
-    (same_block (b == b) (code + 1 == code + 1) code (fixed_code box b) (eq-eqb b b refl) (eq-eqb (code + 1) (code + 1) refl))
+    subst (λ l. HasExact (l ∷ box) b code) (sym (same_Some l (exact b code) e))
+    (same_block (b == b) (code + 1 == code + 1) code (exact_code box b) (eq-eqb b b refl) (eq-eqb (code + 1) (code + 1) refl))
 fixes_at (l ∷ box) (suc k) b code up e =
     let below : l.block < b = up 0 (suc k) l (exact b code) (omega arith) refl e in
     let rest = fixes_at box k b code (λ i j x y less p q. up (suc i) (suc j) x y (omega arith) p q) e in
     elim (cases_Bool (l.block == b)) [
       | inl same ↦ let f = eqb-true l.block b same in absurd (omega arith)
-      | inr other ↦ other_block (l.block == b) (if l.hi == l.lo + 1 then Some l.lo else None) (fixed_code box b) other ∙ rest
+      | inr other ↦ other_block (l.block == b) (if l.hi == l.lo + 1 then Some l.lo else None) (exact_code box b) other ∙ rest
     ]
 
 -- a block that is fixed has its literal of one code
-pub fixed_has : (box : List Literal) (b code : ℕ) → Fixes box b code → Contains box (exact b code)
-fixed_has box b code f = fixed-all (Contains box) box b code (All-contains_itself box) f
+pub exact_has : (box : List Literal) (b code : ℕ) → HasExact box b code → Contains box (exact b code)
+exact_has box b code f = exact-all (Contains box) box b code (All-contains_itself box) f
 
 place_in : (box : List Literal) (l : Literal) → Contains box l → (k : ℕ) × (slice_get box k ≡ Some l)
 place_in box l (k, within, is) = (k, slice_get-get_or box k l within ∙ ap Some is)
@@ -64,7 +64,7 @@ Parts box p i = (l : Literal) → Contains box l → l.block ≡ i → (l ≢ ex
 -- a box that agrees with a plan up to a block, and neither agrees nor is above it there, is not behind it
 pub not_behind : (n : ℕ) (box : List Literal) (p : List ℕ) (i : ℕ) → IsAscending box → Agrees box p i → i < n → Parts box p i → IsBehindOn n box p → ⊥
 not_behind n box p i up agrees exist parts (inr all) =
-    (parts (exact i (code_of p i)) (fixed_has box i (code_of p i) (all i exist)) refl).0 refl
+    (parts (exact i (code_of p i)) (exact_has box i (code_of p i) (all i exist)) refl).0 refl
 not_behind n box p i up agrees exist parts (inl (j, within, same, (k, l, lt, is, (at, above)))) =
     let inside : Contains box l = (k, lt, is) in
     elim (cases_order j i) [
@@ -74,7 +74,7 @@ not_behind n box p i up agrees exist parts (inl (j, within, same, (k, l, lt, is,
             let f : l ≡ exact j (code_of p j) = one_literal box j l (exact j (code_of p j)) up inside (agrees j less) at in
             let g : l.lo ≡ code_of p j = ap (λ (l : Literal). l.lo) f in
             absurd (omega arith)
-        | inr more ↦ (parts (exact i (code_of p i)) (fixed_has box i (code_of p i) (same i more)) refl).0 refl
+        | inr more ↦ (parts (exact i (code_of p i)) (exact_has box i (code_of p i) (same i more)) refl).0 refl
       ]
     ]
 

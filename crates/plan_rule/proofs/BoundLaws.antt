@@ -10,7 +10,7 @@ use Rattle.plan_rule.specs.declared.literal.Literal.{Literal}
 use Rattle.plan_rule.specs.Choices.{Choices, blocks}
 use Rattle.plan_rule.specs.Plans.{code_of, IsPlan, IsFeasible, total, IsLexLess, IsAnswer, IsNotBefore}
 use Rattle.shape_exact.specs.Each.{sum_below}
-use Rattle.plan_rule.specs.Boxes.{Holds, Fixes, fixed_code, exact, IsBox, IsLiteral}
+use Rattle.plan_rule.specs.Boxes.{Holds, HasExact, exact_code, exact, IsBox, IsLiteral}
 use Rattle.plan_rule.specs.Bounds.{IsSumOfLeast, IsBound, MayTake, MayFit, IsBase, IsFit, IsBehind, Refutes, IsAtMost}
 
 -- the sum of the least costs is at most the cost of any choice of codes
@@ -29,44 +29,45 @@ bound-at_most May cost n None f (b, l, none) may = none (f b) (may b l)
 bound-at_most May cost n (Some k) f h may = sum_of_least-le May cost n k f h may
 
 -- what holds of each literal of a box holds of the literal of a fixed code
-pub fixed-all : (P : Literal → Type 0) (box : List Literal) (b d : ℕ) → All P box → Fixes box b d → P (exact b d)
-fixed-all P [] b d h e = absurd (none-some d e)
-fixed-all P (l ∷ box) b d h e = fixed-go P l box b d (l.block == b) (l.hi == l.lo + 1) (All-head P l box h) (eqb-true l.block b) (eqb-true l.hi (l.lo + 1))
-    (λ f. fixed-all P box b d (All-tail P l box h) f) e
+pub exact-all : (P : Literal → Type 0) (box : List Literal) (b d : ℕ) → All P box → HasExact box b d → P (exact b d)
+exact-all P [] b d h e = absurd (none-some d e)
+exact-all P (l ∷ box) b d h e = exact-go P l box b d (l.block == b) (l.hi == l.lo + 1) (All-head P l box h) (eqb-true l.block b) (eqb-true l.hi (l.lo + 1))
+    (λ f. exact-all P box b d (All-tail P l box h) f) e
   where
-    fixed-go : (P : Literal → Type 0) (l : Literal) (box : List Literal) (b d : ℕ) (at one : Bool) → P l → (at ≡ true → l.block ≡ b) → (one ≡ true → l.hi ≡ l.lo + 1)
-        → (fixed_code box b ≡ Some d → P (exact b d)) → (if at then (if one then Some l.lo else None) else fixed_code box b) ≡ Some d → P (exact b d)
-    fixed-go P l box b d true true p is one rest e =
+    exact-go : (P : Literal → Type 0) (l : Literal) (box : List Literal) (b d : ℕ) (at one : Bool) → P l → (at ≡ true → l.block ≡ b) → (one ≡ true → l.hi ≡ l.lo + 1)
+        → (exact_code box b ≡ Some d → P (exact b d)) → (if at then (if one then Some l.lo else None) else exact_code box b) ≡ Some d → P (exact b d)
+    exact-go P l box b d true true p is one rest e =
         let f : l.lo ≡ d = same_Some l.lo d e in
         let g : l.hi ≡ d + 1 = one refl ∙ ap (λ n. n + 1) f in
         subst (λ b. P (record { block = b; lo = d; hi = d + 1 })) (is refl)
         (subst (λ n. P (record { block = l.block; lo = n; hi = d + 1 })) f
         (subst (λ n. P (record { block = l.block; lo = l.lo; hi = n })) g p))
-    fixed-go P l box b d true false p is one rest e = absurd (none-some d e)
-    fixed-go P l box b d false one' p is one rest e = rest e
+    exact-go P l box b d true false p is one rest e = absurd (none-some d e)
+    exact-go P l box b d false one' p is one rest e = rest e
 
 -- a plan in a box has the code that the box fixes
-pub held_code : (box : List Literal) (q : List ℕ) (b d : ℕ) → Holds box q → Fixes box b d → code_of q b ≡ d
+pub held_code : (box : List Literal) (q : List ℕ) (b d : ℕ) → Holds box q → HasExact box b d → code_of q b ≡ d
 held_code box q b d h k =
     let two : (d ≤ code_of q b) × (code_of q b < d + 1) =
-    fixed-all (λ l. (l.lo ≤ code_of q l.block) × (code_of q l.block < l.hi)) box b d h k in
+    exact-all (λ l. (l.lo ≤ code_of q l.block) × (code_of q l.block < l.hi)) box b d h k in
     omega (arith, two)
 
 pub may_take : (c : Choices) (box : List Literal) (q : List ℕ) → IsPlan c q → Holds box q → (b : ℕ) → b < blocks c → MayTake c box b (code_of q b)
 may_take c box q p h b l = (p.in_range b l, λ d k. held_code box q b d h k)
 
 -- the blocks of a box exist
-pub held_block : (c : Choices) (box : List Literal) (b d : ℕ) → IsBox c box → Fixes box b d → b < blocks c
-held_block c box b d h k = let l : IsLiteral c (exact b d) = fixed-all (IsLiteral c) box b d h.each k in l.block
+pub held_block : (c : Choices) (box : List Literal) (b d : ℕ) → IsBox c box → HasExact box b d → b < blocks c
+held_block c box b d h k = let l : IsLiteral c (exact b d) = exact-all (IsLiteral c) box b d h.each k in l.block
 
 may_fit : (c : Choices) (box : List Literal) (q : List ℕ) → IsBox c box → IsFeasible c q → Holds box q
     → (b : ℕ) → b < blocks c → MayFit c box b (code_of q b)
 may_fit c box q w p h b l = (
   may_take c box q p.is_plan h b l,
   λ free a d k clash.
-      let other : a ≢ b = λ e. none-some d (sym free ∙ subst (λ a. Fixes box a d) e k) in
+      let other : a ≢ b = λ e. none-some d (sym free ∙ subst (λ a. HasExact box a d) e k) in
       p.clear a b (held_block c box a d w k) l other
       (subst (λ d. c.Clash a d b (code_of q b)) (sym (held_code box q a d h k)) clash),
+  λ free meets. p.unmet b l meets,
 )
 
 -- the base of a box is at most the total of a plan in it

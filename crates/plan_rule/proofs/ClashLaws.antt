@@ -1,4 +1,4 @@
--- A clash of two codes is a meeting of their placements, and it is mutual.
+-- A clash of two codes is a clash of their placements, and it is mutual.
 use Rattle.std.proofs.Common.{◌≡◌, ℕ, zero, suc, ◌<◌, Bool, true, false, List, [], ◌∷◌, length, Some, refl, sym, ◌∙◌, subst, arith, inl, inr}
 use Rattle.std.specs.Prelude.{◌↔◌, IsTrue, not, slice_get}
 use Rattle.std.proofs.lemmas.Option.{same_Some}
@@ -12,13 +12,13 @@ use Rattle.code_table.specs.Placements.{placements, placements_of, IsPlacement}
 use Rattle.code_table.proofs.PlacedLaws.{placed-facts}
 use Rattle.shape_exact.specs.Each.{for_some}
 use Rattle.plan_rule.specs.Choices.{blocks}
-use Rattle.plan_rule.specs.Plans.{code_of, IsPlan, IsFeasible}
+use Rattle.plan_rule.specs.Plans.{code_of, IsPlan, HasNoClash}
 use Rattle.plan_rule.specs.Pairs.{ClashesAfter}
-use Rattle.plan_rule.specs.Clashes.{place_of, MayMeet, Meet, Clash}
+use Rattle.plan_rule.specs.Clashes.{place_of, MayClash, PlacementsClash, Clash}
 use Rattle.plan_rule.specs.Yards.{choices}
 
-meet-sym : (one : Block) (p : Placement) (two : Block) (q : Placement) → Meet one p two q → Meet two q one p
-meet-sym one p two q m = record {
+placements_clash-sym : (one : Block) (p : Placement) (two : Block) (q : Placement) → PlacementsClash one p two q → PlacementsClash two q one p
+placements_clash-sym one p two q m = record {
   plate = sym m.plate;
   first_starts = m.second_starts;
   second_starts = m.first_starts;
@@ -37,7 +37,7 @@ clash-sym yard a code_a b code_b h = record {
   two_is = h.one_is;
   p_is = h.q_is;
   q_is = h.p_is;
-  meet = meet-sym h.one h.p h.two h.q h.meet;
+  clash = placements_clash-sym h.one h.p h.two h.q h.clash;
 }
 
 pub element : {A : Type 0} (xs : List A) (i : ℕ) → i < length xs → (x : A) × (slice_get xs i ≡ Some x)
@@ -60,29 +60,29 @@ pub record ArePlaced (yard : PlainYard) (a code_a b code_b : ℕ) (p q : Placeme
   pub first_is : (one : Block) → slice_get yard.blocks a ≡ Some one → first ≡ turned p.turn one.shape
   pub second_is : (two : Block) → slice_get yard.blocks b ≡ Some two → second ≡ turned q.turn two.shape
 
-meets : (yard : PlainYard) (a code_a b code_b : ℕ) (p q : Placement) → slice_get (placements yard a) code_a ≡ Some p
-    → slice_get (placements yard b) code_b ≡ Some q → (h : Clash yard a code_a b code_b) → Meet h.one p h.two q
-meets yard a code_a b code_b p q p_is q_is h =
-    subst (λ p. Meet h.one p h.two q) (same_Some _ _ (sym h.p_is ∙ p_is))
-    (subst (λ q. Meet h.one h.p h.two q) (same_Some _ _ (sym h.q_is ∙ q_is)) h.meet)
+clash_at : (yard : PlainYard) (a code_a b code_b : ℕ) (p q : Placement) → slice_get (placements yard a) code_a ≡ Some p
+    → slice_get (placements yard b) code_b ≡ Some q → (h : Clash yard a code_a b code_b) → PlacementsClash h.one p h.two q
+clash_at yard a code_a b code_b p q p_is q_is h =
+    subst (λ p. PlacementsClash h.one p h.two q) (same_Some _ _ (sym h.p_is ∙ p_is))
+    (subst (λ q. PlacementsClash h.one h.p h.two q) (same_Some _ _ (sym h.q_is ∙ q_is)) h.clash)
 
 -- placements that are on other plates, or share no day
 pub clear_by_place : (yard : PlainYard) (a code_a b code_b : ℕ) (p q : Placement) → slice_get (placements yard a) code_a ≡ Some p
-    → slice_get (placements yard b) code_b ≡ Some q → (MayMeet p q → IsTrue false) → IsTrue false ↔ (choices yard).Clash a code_a b code_b
+    → slice_get (placements yard b) code_b ≡ Some q → (MayClash p q → IsTrue false) → IsTrue false ↔ (choices yard).Clash a code_a b code_b
 unfolding choices
 clear_by_place yard a code_a b code_b p q p_is q_is far = (
   λ f. cc,
-  λ h. let m = meets yard a code_a b code_b p q p_is q_is h in far (m.plate, m.first_starts, m.second_starts),
+  λ h. let m = clash_at yard a code_a b code_b p q p_is q_is h in far (m.plate, m.first_starts, m.second_starts),
 )
 
--- placements that may meet, by their footprints
+-- placements that may clash, by their footprints
 by_places : (yard : PlainYard) (a code_a b code_b : ℕ) (p q : Placement) (first second : List Point) (apart : Bool)
-    → ArePlaced yard a code_a b code_b p q first second → MayMeet p q → (IsTrue apart ↔ AreApart first (place_of p) second (place_of q))
+    → ArePlaced yard a code_a b code_b p q first second → MayClash p q → (IsTrue apart ↔ AreApart first (place_of p) second (place_of q))
     → IsTrue (not apart) ↔ (choices yard).Clash a code_a b code_b
 unfolding choices
 by_places yard a code_a b code_b p q first second true s may told = (
   λ f. cc,
-  λ h. let m = meets yard a code_a b code_b p q s.p_is s.q_is h in
+  λ h. let m = clash_at yard a code_a b code_b p q s.p_is s.q_is h in
       absurd (m.shapes (subst (λ f. AreApart f (place_of p) (turned q.turn h.two.shape) (place_of q)) (s.first_is h.one h.one_is)
       (subst (λ g. AreApart first (place_of p) g (place_of q)) (s.second_is h.two h.two_is) (told.0 refl)))),
 )
@@ -98,7 +98,7 @@ by_places yard a code_a b code_b p q first second false s may told =
         two_is = two_is;
         p_is = s.p_is;
         q_is = s.q_is;
-        meet = record {
+        clash = record {
           plate = may.0;
           first_starts = may.1;
           second_starts = may.2;
@@ -110,24 +110,21 @@ by_places yard a code_a b code_b p q first second false s may told =
       λ h. refl,
     )
 
--- placements that may meet, by their footprints and the points to which these are shifted
+-- placements that may clash, by their footprints and the points to which these are shifted
 pub clash_by_shapes : (yard : PlainYard) (a code_a b code_b : ℕ) (p q : Placement) (first second : List Point) (u v : Point) (apart : Bool)
-    → ArePlaced yard a code_a b code_b p q first second → MayMeet p q → u ≡ place_of p → v ≡ place_of q
+    → ArePlaced yard a code_a b code_b p q first second → MayClash p q → u ≡ place_of p → v ≡ place_of q
     → (IsTrue apart ↔ AreApart first u second v) → IsTrue (not apart) ↔ (choices yard).Clash a code_a b code_b
 clash_by_shapes yard a code_a b code_b p q first second u v apart s may e f told =
     by_places yard a code_a b code_b p q first second apart s may
     (subst (λ w. IsTrue apart ↔ AreApart first w second (place_of q)) e (subst (λ w. IsTrue apart ↔ AreApart first u second w) f told))
 
--- a plan of which no code clashes with that of a later block
+-- no two codes of a plan of which none clashes with that of a later block
 pub clear_plan : (yard : PlainYard) (plan : List ℕ) → IsPlan (choices yard) plan
-    → ((a : ℕ) → a < blocks (choices yard) → ClashesAfter (choices yard) plan a → ⊥) → IsFeasible (choices yard) plan
-clear_plan yard plan p none = record {
-  is_plan = p;
-  clear = λ a b l m ne clash. elim (cases_order a b) [
-    | inl e ↦ ne e
-    | inr differ ↦ elim differ [
-      | inl k ↦ none a l (b, k, m, clash)
-      | inr k ↦ none b m (a, k, l, clash-sym yard a (code_of plan a) b (code_of plan b) clash)
-    ]
-  ];
-}
+    → ((a : ℕ) → a < blocks (choices yard) → ClashesAfter (choices yard) plan a → ⊥) → HasNoClash (choices yard) plan
+clear_plan yard plan p none = λ a b l m ne clash. elim (cases_order a b) [
+  | inl e ↦ ne e
+  | inr differ ↦ elim differ [
+    | inl k ↦ none a l (b, k, m, clash)
+    | inr k ↦ none b m (a, k, l, clash-sym yard a (code_of plan a) b (code_of plan b) clash)
+  ]
+]

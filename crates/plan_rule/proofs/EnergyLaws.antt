@@ -8,14 +8,15 @@ use Rattle.shape_exact.specs.Each.{sum_below}
 use Rattle.plan_rule.specs.declared.literal.Literal.{Literal}
 use Rattle.plan_rule.specs.Choices.{Choices, blocks, count}
 use Rattle.plan_rule.specs.Plans.{code_of, IsPlan, IsFeasible, total}
-use Rattle.plan_rule.specs.Boxes.{Holds, fixed_code}
+use Rattle.plan_rule.specs.Boxes.{Holds, exact_code}
 use Rattle.plan_rule.specs.Bounds.{IsLeastOf, IsSumOfLeast, MayTake, IsAtMost, presses, demand, used, IsTight, IsEnergy}
 use Rattle.plan_rule.proofs.BoundLaws.{base-at_most, held_code, may_take, sum_of_least-le}
 
 -- what is so of the figures of a yard
 pub record IsPacked (c : Choices) : Type 0 where
-  -- the cells that a feasible plan takes in a window are there
-  pub fits : (q : List ℕ) (first last : ℕ) → IsFeasible c q → sum_below (blocks c) (λ b. c.taken first last b (code_of q b)) ≤ c.capacity first last
+  -- the cells that the pieces and a feasible plan take in a window are there
+  pub fits : (q : List ℕ) (first last : ℕ) → IsFeasible c q
+      → c.standing first last + sum_below (blocks c) (λ b. c.taken first last b (code_of q b)) ≤ c.capacity first last
   -- a code of a block that is released in the window takes all its work there, or ends after it
   pub whole_or_late : (b code first last : ℕ) → b < blocks c → code < count c b → first ≤ c.release b → c.due b ≤ last
       → (c.work b ≤ c.taken first last b code) ⊎ ((last + 1 < c.days) × (c.weight b * (last + 1 - c.due b) ≤ c.cost b code))
@@ -31,11 +32,11 @@ none_of (Some x) e = absurd (false≢true e)
 
 -- what it is to press
 press_parts : (c : Choices) (box : List Literal) (first last b : ℕ) → presses c box first last b ≡ true
-    → (fixed_code box b ≡ None) × (first ≤ c.release b) × (c.due b ≤ last)
+    → (exact_code box b ≡ None) × (first ≤ c.release b) × (c.due b ≤ last)
 press_parts c box first last b e =
-    let two = and_parts (is_none (fixed_code box b) && nat_le first (c.release b)) (nat_le (c.due b) last) e in
-    let one = and_parts (is_none (fixed_code box b)) (nat_le first (c.release b)) two.0 in
-    (none_of (fixed_code box b) one.0, leb-true _ _ one.1, leb-true _ _ two.1)
+    let two = and_parts (is_none (exact_code box b) && nat_le first (c.release b)) (nat_le (c.due b) last) e in
+    let one = and_parts (is_none (exact_code box b)) (nat_le first (c.release b)) two.0 in
+    (none_of (exact_code box b) one.0, leb-true _ _ one.1, leb-true _ _ two.1)
 
 -- each block that presses has its work in the window, or one of them is late
 search_late : (c : Choices) (box : List Literal) (first last : ℕ) (q : List ℕ) → IsPacked c → IsPlan c q → (n : ℕ) → n ≤ blocks c
@@ -78,20 +79,20 @@ calm : (c : Choices) (box : List Literal) (first last : ℕ) (q : List ℕ) → 
     → demand c box first last + used c box first last ≤ c.capacity first last
 calm c box first last q packed p h whole =
     let le = sums-le (blocks c) (λ b. if presses c box first last b then c.work b else 0)
-    (λ b. option_map_or (c.taken first last b) (fixed_code box b) 0) (λ b. c.taken first last b (code_of q b))
-    (λ b l. one_block (fixed_code box b) (presses c box first last b) (c.work b) (c.taken first last b (code_of q b)) (c.taken first last b)
+    (λ b. option_map_or (c.taken first last b) (exact_code box b) 0) (λ b. c.taken first last b (code_of q b))
+    (λ b l. one_block (exact_code box b) (presses c box first last b) (c.work b) (c.taken first last b (code_of q b)) (c.taken first last b)
     (λ t. (press_parts c box first last b t).0) (whole b l)
     (λ d e. let f = ap (c.taken first last b) (held_code box q b d h e) in omega arith)) in
     let fits = packed.fits q first last p in omega arith
 
 -- the least own cost of a block that is not fixed
-free_least : (c : Choices) (box : List Literal) (b m : ℕ) → fixed_code box b ≡ None
+free_least : (c : Choices) (box : List Literal) (b m : ℕ) → exact_code box b ≡ None
     → IsLeastOf (MayTake c box b) (c.cost b) (Some m) → IsLeastOf (λ code. code < count c b) (c.cost b) (Some m)
 free_least c box b m free ((x, may, e), least) =
     ((x, may.0, e), λ y l. least y (l, λ d k. absurd (none-some d (sym free ∙ k))))
 
 -- a plan that has a dear code for a block costs so much more than the base
-dear : (c : Choices) (box : List Literal) (q : List ℕ) (b : ℕ) (n : ℕ) (s : ℕ) → IsPlan c q → Holds box q → fixed_code box b ≡ None
+dear : (c : Choices) (box : List Literal) (q : List ℕ) (b : ℕ) (n : ℕ) (s : ℕ) → IsPlan c q → Holds box q → exact_code box b ≡ None
     → b < n → n ≤ blocks c → IsSumOfLeast (MayTake c box) c.cost n s
     → (m : ℕ) × IsLeastOf (λ code. code < count c b) (c.cost b) (Some m) × (s + c.cost b (code_of q b) ≤ sum_below n (λ b. c.cost b (code_of q b)) + m)
 dear c box q b zero s p h free l k is = absurd (omega arith)

@@ -1,14 +1,15 @@
--- Where a plan is feasible there is a best one, if it can be told which codes clash.
+-- Where a plan is feasible there is a best one, if it can be told which codes clash and which meet a piece.
 use Rattle.std.proofs.Common.{◌≡◌, ◌≢◌, ℕ, zero, suc, ◌+◌, ◌<◌, List, [], ◌∷◌, ◌++◌, length, Option, Some, None, ◌⊎◌, sym, subst, inl, inr, arith, length-append}
 use Rattle.std.proofs.lemmas.Bool.{cases_lt, cases_order}
-use Rattle.plan_rule.specs.Choices.{Choices, blocks, count}
+use Rattle.plan_rule.specs.Choices.{Choices, MeetsSome, blocks, count}
 use Rattle.plan_rule.specs.Plans.{code_of, IsFeasible, IsBefore, IsBest, IsAnswer, IsLeastOn, Improves}
 use Rattle.plan_rule.proofs.OrderLaws.{before_cases, before_trans}
 use Rattle.plan_rule.proofs.SearchLaws.{children_cover, leaf, leaf_keeps, leaf_takes, before_self, improves_first, improves_takes, least_is_best}
 
--- it can be told which codes clash
-abbrev pub IsDecided : Choices → Type 0
-IsDecided c = (a x b y : ℕ) → c.Clash a x b y ⊎ (c.Clash a x b y → ⊥)
+-- it can be told which codes clash, and which meet a piece
+pub record IsDecided (c : Choices) : Type 0 where
+  pub clash : (a x b y : ℕ) → c.Clash a x b y ⊎ (c.Clash a x b y → ⊥)
+  pub meets : (b x : ℕ) → MeetsSome c b x ⊎ (MeetsSome c b x → ⊥)
 
 -- what can be told of each number below n can be told of all
 all_or_not : (P : ℕ → Type 0) (n : ℕ) → ((k : ℕ) → P k ⊎ (P k → ⊥)) → ((k : ℕ) → k < n → P k) ⊎ (((k : ℕ) → k < n → P k) → ⊥)
@@ -33,10 +34,20 @@ clear_or_not c told plan a b = elim (cases_order a b) [
   | inl e ↦ inl (λ ne clash. ne e)
   | inr differ ↦
       let ne : a ≢ b = λ e. elim differ [ inl l ↦ absurd (omega arith) | inr l ↦ absurd (omega arith) ] in
-      elim (told a (code_of plan a) b (code_of plan b)) [
+      elim (told.clash a (code_of plan a) b (code_of plan b)) [
         | inl clash ↦ inr (λ h. h ne clash)
         | inr free ↦ inl (λ ne clash. free clash)
       ]
+]
+
+-- a code of a plan meets no piece
+abbrev IsUnmet : Choices → List ℕ → ℕ → Type 0
+IsUnmet c plan b = MeetsSome c b (code_of plan b) → ⊥
+
+unmet_or_not : (c : Choices) → IsDecided c → (plan : List ℕ) (b : ℕ) → IsUnmet c plan b ⊎ (IsUnmet c plan b → ⊥)
+unmet_or_not c told plan b = elim (told.meets b (code_of plan b)) [
+  | inl met ↦ inr (λ h. h met)
+  | inr free ↦ inl free
 ]
 
 lt_or_not : (m n : ℕ) → (m < n) ⊎ (m < n → ⊥)
@@ -50,10 +61,14 @@ feasible_or_not c told plan e = elim (all_or_not (λ b. code_of plan b < count c
       elim (all_or_not (λ a. (b : ℕ) → b < blocks c → AreClear c plan a b) (blocks c)
       (λ a. all_or_not (AreClear c plan a) (blocks c) (clear_or_not c told plan a))) [
         | inr broken ↦ inr (λ f. broken (λ a l b m. f.clear a b l m))
-        | inl clear ↦ inl (record {
-          is_plan = record { one_each = e; in_range = in_range };
-          clear = λ a b l m. clear a l b m;
-        })
+        | inl clear ↦ elim (all_or_not (IsUnmet c plan) (blocks c) (unmet_or_not c told plan)) [
+          | inr broken ↦ inr (λ f. broken f.unmet)
+          | inl unmet ↦ inl (record {
+            is_plan = record { one_each = e; in_range = in_range };
+            clear = λ a b l m. clear a l b m;
+            unmet = unmet;
+          })
+        ]
       ]
 ]
 

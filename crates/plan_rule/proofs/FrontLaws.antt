@@ -1,4 +1,4 @@
--- What is left after each step: a block with one code is fixed, a range is halved, and past the last block bits are 0.
+-- What is left after each step: a block with one code is exact, a range is halved, and past the last block bits are 0.
 use Rattle.std.proofs.Common.{◌≡◌, ℕ, zero, suc, ◌+◌, ◌-◌, ◌*◌, ◌^◌, ◌<◌, ◌≤◌, List, [], ◌∷◌, ◌++◌, length, length-append, drop, refl, sym, ap, ◌∙◌, subst, inl, inr, arith}
 use Rattle.std.specs.Prelude.{slice_index}
 use Rattle.std.proofs.Math.Nat.{pow-suc}
@@ -59,21 +59,21 @@ start_left c left e f g =
       m = 32;
       enough = omega arith;
       few = omega arith;
-      fixed = λ b l. let none : length left.exact ≡ 0 = ap length e in absurd (omega arith);
+      are_codes = λ b l. let none : length left.exact ≡ 0 = ap length e in absurd (omega arith);
       part = subst (λ exact. IsPart (path c) c.counts 32 0 32 exact 32 left.lo left.hi (drop (length exact) c.counts)) (sym e)
           (subst (λ lo. IsPart (path c) c.counts 32 0 32 [] 32 lo left.hi c.counts) (sym f)
           (subst (λ hi. IsPart (path c) c.counts 32 0 32 [] 32 0 hi c.counts) hi part));
     }
 
--- a range of one code is fixed
-abbrev pub fixed_next : Choices → Left → ℕ → Left
-fixed_next c left hi = record { exact = left.exact ++ left.lo ∷ []; lo = 0; hi = hi }
+-- a range of one code is exact
+abbrev pub exact_next : Choices → Left → ℕ → Left
+exact_next c left hi = record { exact = left.exact ++ left.lo ∷ []; lo = 0; hi = hi }
 
 more_length : (xs : List ℕ) (x : ℕ) → length (xs ++ x ∷ []) ≡ suc (length xs)
 more_length xs x = length-append xs (x ∷ []) ∙ (let e : length xs + length (x ∷ []) ≡ suc (length xs) = omega arith in e)
 
 pub settle_left : (c : Choices) (front w : ℕ) (left : Left) (hi : ℕ) → IsLeft c front w left → IsRange c left → left.hi ≡ left.lo + 1
-    → hi ≡ count c (length (left.exact ++ left.lo ∷ [])) → IsLeft c front w (fixed_next c left hi)
+    → hi ≡ count c (length (left.exact ++ left.lo ∷ [])) → IsLeft c front w (exact_next c left hi)
 settle_left c front w left hi is (inr gone) one e = let h = gone.2 in absurd (omega arith)
 settle_left c front w left hi is (inl (exist, some, within)) one e =
     let k : ℕ = length left.exact in
@@ -87,8 +87,8 @@ settle_left c front w left hi is (inl (exist, some, within)) one e =
       m = 32;
       enough = is.few;
       few = is.few;
-      fixed = λ b l. elim (cases_lt b k) [
-        | inl below ↦ let same = get_or_append_left left.exact (left.lo ∷ []) 0 b below in let f = is.fixed b below in omega arith
+      are_codes = λ b l. elim (cases_lt b k) [
+        | inl below ↦ let same = get_or_append_left left.exact (left.lo ∷ []) 0 b below in let f = is.are_codes b below in omega arith
         | inr last ↦
             let at : b ≡ k = omega arith in
             subst (λ b. code_of (left.exact ++ left.lo ∷ []) b < count c b) (sym at)
@@ -99,7 +99,7 @@ settle_left c front w left hi is (inl (exist, some, within)) one e =
     }
 
 pub settle_range : (c : Choices) (left : Left) (hi : ℕ) → HasCodes c → IsRange c left → left.hi ≡ left.lo + 1
-    → hi ≡ count c (length (left.exact ++ left.lo ∷ [])) → IsRange c (fixed_next c left hi)
+    → hi ≡ count c (length (left.exact ++ left.lo ∷ [])) → IsRange c (exact_next c left hi)
 settle_range c left hi has (inr gone) one e = let h = gone.2 in absurd (omega arith)
 settle_range c left hi has (inl (exist, some, within)) one e =
     let long = more_length left.exact left.lo in
@@ -142,7 +142,7 @@ lower_left c front w left is exist wide =
       m = m;
       enough = enough;
       few = omega arith;
-      fixed = is.fixed;
+      are_codes = is.are_codes;
       part = subst (λ xs. IsPart (path c) cs 32 front w left.exact m left.lo (middle left.lo left.hi) xs) (sym cons) half;
     }
 
@@ -159,7 +159,7 @@ upper_left c front w left is exist wide =
       m = m;
       enough = enough;
       few = omega arith;
-      fixed = is.fixed;
+      are_codes = is.are_codes;
       part = subst (λ xs. IsPart (path c) cs 32 (front + 2 ^ w) w left.exact m (middle left.lo left.hi) left.hi xs) (sym cons) half;
     }
 
@@ -180,7 +180,7 @@ gone_left c front w left is gone =
       m = is.m;
       enough = omega arith;
       few = omega arith;
-      fixed = is.fixed;
+      are_codes = is.are_codes;
       part = subst (λ xs. IsPart (path c) c.counts 32 front w left.exact is.m left.lo left.hi xs) (sym none)
           (gone_part (path c) c.counts 32 front w left.exact is.m left.lo left.hi
           (subst (λ xs. IsPart (path c) c.counts 32 front (suc w) left.exact is.m left.lo left.hi xs) none is.part));

@@ -5,6 +5,7 @@ pub mod EnergyLaws
 pub mod UniqueLaws
 pub mod BarLaws
 pub mod RegionLaws
+pub mod OnePartLaws
 pub mod OrderLaws
 pub mod SearchLaws
 pub mod CountLaws
@@ -26,3 +27,4 @@ pub mod CoverLaws
 pub mod Rows
 pub mod RegionBoxLaws
 pub mod TellLaws
+pub mod MeetingLaws

@@ -31,19 +31,19 @@ first_held false b code q e = All-cons (HoldsCode q) (exact b code) [] (omega ar
 exacts_agree : (c : Choices) (b : ℕ) (codes q : List ℕ)
     → ((i : ℕ) → i < length codes → code_of codes i < count c (b + i)) → ((i : ℕ) → i < length codes → code_of q (b + i) < count c (b + i))
     → Holds (exact_literals c b codes) q → AgreesFrom b codes q
-exacts_agree c b [] q fixed within h i l = absurd (omega arith)
-exacts_agree c b (code ∷ codes) q fixed within h zero l =
+exacts_agree c b [] q are_codes within h i l = absurd (omega arith)
+exacts_agree c b (code ∷ codes) q are_codes within h zero l =
     let e : b + 0 ≡ b = omega arith in
-    let one : code < count c b = subst (λ n. code < count c n) e (fixed 0 (omega arith)) in
+    let one : code < count c b = subst (λ n. code < count c n) e (are_codes 0 (omega arith)) in
     let two : code_of q b < count c b = subst (λ n. code_of q n < count c n) e (within 0 (omega arith)) in
     first_agrees (count c b == 1) b code q
     (All-front (HoldsCode q) (if count c b == 1 then [] else exact b code ∷ []) (exact_literals c (suc b) codes) h)
     (only_code (count c b == 1) (count c b) code (code_of q b) (eqb-true (count c b) 1) one two)
     ∙ ap (code_of q) (sym e)
-exacts_agree c b (code ∷ codes) q fixed within h (suc i) l =
+exacts_agree c b (code ∷ codes) q are_codes within h (suc i) l =
     let next : (i : ℕ) → b + suc i ≡ suc b + i = λ i. omega arith in
     exacts_agree c (suc b) codes q
-    (λ i l. subst (λ n. code_of codes i < count c n) (next i) (fixed (suc i) (omega arith)))
+    (λ i l. subst (λ n. code_of codes i < count c n) (next i) (are_codes (suc i) (omega arith)))
     (λ i l. subst (λ n. code_of q n < count c n) (next i) (within (suc i) (omega arith)))
     (All-back (HoldsCode q) (if count c b == 1 then [] else exact b code ∷ []) (exact_literals c (suc b) codes) h) i (omega arith)
     ∙ ap (code_of q) (sym (next i))

@@ -1,6 +1,6 @@
 -- What is left once all bits of a job are used is the job's region.
 use Rattle.std.proofs.Common.{◌≡◌, ℕ, zero, suc, ◌+◌, ◌-◌, ◌^◌, ◌<◌, ◌≤◌, List, [], ◌∷◌, ◌++◌, length, length-append, drop, ◌⊎◌, refl, sym, ap, ◌∙◌, subst, inl, inr, arith}
-use Rattle.std.specs.Prelude.{replicate}
+use Rattle.std.specs.Prelude.{replicate, ◌↔◌}
 use Rattle.std.proofs.Math.Seq.{get_or-append_seam}
 use Rattle.std.proofs.lemmas.Bool.{cases_order}
 use Rattle.std.proofs.lemmas.List.{get_or_append_left, get_or-append-add, get_or-drop, length-drop, length-replicate}
@@ -8,11 +8,12 @@ use Rattle.plan_rule.specs.declared.job.Job.{Job}
 use Rattle.plan_rule.specs.declared.region.Left.{Left}
 use Rattle.plan_rule.specs.Choices.{Choices, blocks, count}
 use Rattle.plan_rule.specs.Plans.{IsPlan, Extends, code_of}
-use Rattle.plan_rule.specs.Paths.{number_of, path}
+use Rattle.plan_rule.specs.Paths.{number_of, path, width, IsInRegion}
 use Rattle.plan_rule.specs.Fronts.{AreCodes, InRange, tail_of, HasCodes, IsRange, IsSettled, IsLeft}
-use Rattle.plan_rule.specs.Regions.{Follows, IsRegionPart}
+use Rattle.plan_rule.specs.Regions.{Follows, HaveHalves, IsRegionPart}
 use Rattle.plan_rule.proofs.PathLaws.{number-below}
-use Rattle.plan_rule.proofs.FrontLaws.{codes_of_plan}
+use Rattle.plan_rule.specs.Jobs.{lower, upper}
+use Rattle.plan_rule.proofs.FrontLaws.{codes_of_plan, lower_left, upper_left}
 
 -- a list that begins with another is that one and the rest
 front_splits : (front q : List ℕ) → length front ≤ length q → Extends front q → q ≡ front ++ drop (length front) q
@@ -81,12 +82,12 @@ zeros (suc n) (suc i) = zeros n i
 -- some plan follows what is left
 pub some_follows : (c : Choices) (left : Left) → HasCodes c → ((b : ℕ) → b < length left.exact → code_of left.exact b < count c b)
     → IsRange c left → (q : List ℕ) × IsPlan c q × Follows c left.exact left.lo left.hi q
-some_follows c left has fixed (inr (gone, lo, hi)) = (
+some_follows c left has are_codes (inr (gone, lo, hi)) = (
   left.exact,
-  record { one_each = gone; in_range = λ b l. fixed b (omega arith) },
+  record { one_each = gone; in_range = λ b l. are_codes b (omega arith) },
   (λ b l. refl, λ exist. absurd (omega arith)),
 )
-some_follows c left has fixed (inl (exist, some, within)) =
+some_follows c left has are_codes (inl (exist, some, within)) =
     let k : ℕ = length left.exact in
     let zs : List ℕ = replicate (blocks c - (k + 1)) 0 in
     let q : List ℕ = left.exact ++ left.lo ∷ zs in
@@ -99,7 +100,7 @@ some_follows c left has fixed (inl (exist, some, within)) =
         in_range = λ b l. elim (cases_order b k) [
           | inl e ↦ subst (λ b. code_of q b < count c b) (sym e) (omega arith)
           | inr o ↦ elim o [
-            | inl below ↦ let same = get_or_append_left left.exact (left.lo ∷ zs) 0 b below in let f = fixed b below in omega arith
+            | inl below ↦ let same = get_or_append_left left.exact (left.lo ∷ zs) 0 b below in let f = are_codes b below in omega arith
             | inr above ↦
                 let place : b ≡ k + suc (b - k - 1) = omega arith in
                 let none : code_of q b ≡ 0 = ap (code_of q) place ∙ get_or-append-add left.exact (left.lo ∷ zs) (suc (b - k - 1)) 0 ∙ zeros (blocks c - (k + 1)) (b - k - 1) in
@@ -110,12 +111,32 @@ some_follows c left has fixed (inl (exist, some, within)) =
       (λ b l. sym (get_or_append_left left.exact (left.lo ∷ zs) 0 b l), λ exist. (omega arith, omega arith)),
     )
 
+-- the plans of a job are those that follow what is left of its interval
+region_plans : (c : Choices) (job : Job) (w : ℕ) (left : Left) → IsLeft c job.front w left → width job ≡ 2 ^ w → length left.exact ≤ blocks c
+    → (q : List ℕ) → IsPlan c q → IsInRegion c job q ↔ Follows c left.exact left.lo left.hi q
+region_plans c job w left is same few q plan = (
+  λ in'. follows c job.front w left q is plan in'.1 (let b = in'.2 in omega arith),
+  λ inside. let (a, b) = in_interval c job.front w left q is few plan inside in (plan, a, (omega arith)),
+)
+
+-- what is left of the halves of a job
+left_halves : (c : Choices) (job : Job) (left : Left) → IsLeft c job.front (32 - job.length) left → length left.exact < blocks c → 1 < left.hi - left.lo → job.length < 32
+    → HaveHalves c job left.exact left.lo left.hi
+left_halves c job left is exist wide short =
+    let w : ℕ = 31 - job.length in
+    let whole = subst (λ n. IsLeft c job.front n left) (let e : 32 - job.length ≡ suc (31 - job.length) = omega arith in e) is in
+    let half : 2 ^ (32 - (job.length + 1)) ≡ 2 ^ w = ap (λ n. 2 ^ n) (let e : 32 - (job.length + 1) ≡ 31 - job.length = omega arith in e) in
+    record {
+      low = λ q plan. region_plans c (lower job) w _ (lower_left c job.front w left whole exist wide) half (omega arith) q plan;
+      high = λ q plan. region_plans c (upper job) w _ (upper_left c job.front w left whole exist wide) half (omega arith) q plan;
+    }
+
 -- once the bits of a job are used, what is left is its region
 pub region_part : (c : Choices) (job : Job) (left : Left) → HasCodes c → IsLeft c job.front (32 - job.length) left → IsRange c left → IsSettled left
     → IsRegionPart c job left.exact left.lo left.hi
 region_part c job left has is range settled =
-    let few : length left.exact ≤ blocks c = few_fixed range in
-    let (p, plan, inside) = some_follows c left has is.fixed range in
+    let few : length left.exact ≤ blocks c = few_exact range in
+    let (p, plan, inside) = some_follows c left has is.are_codes range in
     record {
       range = wide range;
       some = (p, (let (a, b) = in_interval c job.front (32 - job.length) left p is few plan inside in (plan, a, b)));
@@ -123,13 +144,18 @@ region_part c job left has is range settled =
         λ in'. follows c job.front (32 - job.length) left q is plan in'.1 in'.2,
         λ inside. let (a, b) = in_interval c job.front (32 - job.length) left q is few plan inside in (plan, a, b),
       );
+      halves = λ exist short. left_halves c job left is exist (wider range exist) short;
     }
   where
-    few_fixed : IsRange c left → length left.exact ≤ blocks c
-    few_fixed (inl some) = let l = some.0 in omega arith
-    few_fixed (inr gone) = let e = gone.0 in omega arith
+    few_exact : IsRange c left → length left.exact ≤ blocks c
+    few_exact (inl some) = let l = some.0 in omega arith
+    few_exact (inr gone) = let e = gone.0 in omega arith
 
     wide : IsRange c left → ((length left.exact < blocks c) × (left.lo + 2 ≤ left.hi) × (left.hi ≤ count c (length left.exact)))
         ⊎ ((length left.exact ≡ blocks c) × (left.lo ≡ 0) × (left.hi ≡ 0))
     wide (inl (exist, some, within)) = inl (exist, (let differ : left.hi ≡ left.lo + 1 → ⊥ = settled in omega arith), within)
     wide (inr gone) = inr gone
+
+    wider : IsRange c left → length left.exact < blocks c → 1 < left.hi - left.lo
+    wider (inl (exist, some, within)) l = let differ : left.hi ≡ left.lo + 1 → ⊥ = settled in omega arith
+    wider (inr gone) l = let e = gone.0 in absurd (omega arith)

@@ -9,9 +9,10 @@ use Rattle.plan_rule.specs.Choices.{Choices}
 use Rattle.plan_rule.specs.Plans.{total}
 use Rattle.plan_rule.specs.Paths.{path, key}
 use Rattle.plan_rule.specs.Jobs.{word, lower, upper}
-use Rattle.plan_rule.specs.Boxes.{exact, fixed_code}
+use Rattle.plan_rule.specs.Boxes.{exact, exact_code}
 use Rattle.plan_rule.specs.Bounds.{demand, used}
-use Rattle.plan_rule.specs.Yards.{choices, capacity, taken}
+use Rattle.code_table.specs.Placements.{cost_on}
+use Rattle.plan_rule.specs.Yards.{choices, capacity, taken, standing}
 
 abbrev at : ℕ → ℕ → Point
 at x y = record { x = pos x; y = pos y }
@@ -26,6 +27,7 @@ block name = record {
   release = 0;
   due = 1;
   weight = 5;
+  early = 0;
 }
 
 -- two squares of side 3 on a plate of 4 by 3, in 10 days
@@ -34,6 +36,7 @@ squares = record {
   days = 10;
   plates = record { name = 80 ∷ []; width = 4; height = 3; pitch = 1; closed = [] } ∷ [];
   blocks = block (65 ∷ []) ∷ block (66 ∷ []) ∷ [];
+  fixed = [];
 }
 
 -- a block on a plate of 3 by 2, due on day 1, one turn
@@ -46,6 +49,7 @@ small shape duration weight = record {
   release = 0;
   due = 1;
   weight = weight;
+  early = 0;
 }
 
 -- three blocks whose work does not fit two days
@@ -58,6 +62,7 @@ three = record {
       ∷ small (at 0 0 ∷ at 1 0 ∷ at 1 2 ∷ at 0 2 ∷ []) 2 3
       ∷ small (at 0 0 ∷ at 1 0 ∷ at 1 1 ∷ at 0 1 ∷ []) 1 4
       ∷ [];
+  fixed = [];
 }
 
 demand_of_three : demand (choices three) [] 0 1 ≡ 13
@@ -70,7 +75,7 @@ supply_of_three = refl
 
 -- the smallest block on day 0 takes its one cell once, and works no more
 one_cell_taken : used (choices three) (exact 2 0 ∷ []) 0 1 ≡ 1
-unfolding choices taken
+unfolding choices taken standing
 one_cell_taken = refl
 
 demand_without_the_smallest : demand (choices three) (exact 2 0 ∷ []) 0 1 ≡ 12
@@ -87,6 +92,7 @@ triangle = record {
   release = 0;
   due = 0;
   weight = 1;
+  early = 0;
 }
 
 abbrev triangles : PlainYard
@@ -94,6 +100,7 @@ triangles = record {
   days = 1;
   plates = record { name = 80 ∷ []; width = 4; height = 4; pitch = 1; closed = [] } ∷ [];
   blocks = triangle ∷ triangle ∷ [];
+  fixed = [];
 }
 
 path_of_triangles : path (choices triangles) (0 ∷ 1 ∷ []) ≡ 1073741824
@@ -126,6 +133,7 @@ of_counts counts = record {
   counts = counts;
   cost = λ b code. 0;
   Clash = λ a x b y. ⊥;
+  Meets = λ b x i. ⊥;
   days = 1;
   release = λ b. 0;
   due = λ b. 0;
@@ -133,6 +141,7 @@ of_counts counts = record {
   work = λ b. 0;
   capacity = λ first last. 0;
   taken = λ first last b code. 0;
+  standing = λ first last. 0;
 }
 
 two_triangles : path (of_counts (2 ∷ 2 ∷ [])) (0 ∷ 1 ∷ []) ≡ 1073741824
@@ -193,8 +202,66 @@ upper_half_of_root : word (upper root) ≡ 137438953473
 upper_half_of_root = refl
 
 -- a box fixes a block by a literal of one code alone
-fixes_one : fixed_code (exact 0 7 ∷ record { block = 2; lo = 3; hi = 5 } ∷ []) 0 ≡ Some 7
+fixes_one : exact_code (exact 0 7 ∷ record { block = 2; lo = 3; hi = 5 } ∷ []) 0 ≡ Some 7
 fixes_one = refl
 
-fixes_no_range : fixed_code (exact 0 7 ∷ record { block = 2; lo = 3; hi = 5 } ∷ []) 2 ≡ None
+fixes_no_range : exact_code (exact 0 7 ∷ record { block = 2; lo = 3; hi = 5 } ∷ []) 2 ≡ None
 fixes_no_range = refl
+
+-- the same three blocks with the smallest due a day later, and one cell of the plate taken on day 0
+abbrev pinned : PlainYard
+pinned = record {
+  days = 10;
+  plates = record { name = 80 ∷ []; width = 3; height = 2; pitch = 1; closed = [] } ∷ [];
+  blocks =
+      small (at 0 0 ∷ at 2 0 ∷ at 2 2 ∷ at 0 2 ∷ []) 2 2
+      ∷ small (at 0 0 ∷ at 1 0 ∷ at 1 2 ∷ at 0 2 ∷ []) 2 3
+      ∷ record {
+        name = 65 ∷ [];
+        shape = at 0 0 ∷ at 1 0 ∷ at 1 1 ∷ at 0 1 ∷ [];
+        turns = true ∷ false ∷ false ∷ false ∷ [];
+        duration = 1;
+        release = 0;
+        due = 2;
+        weight = 4;
+        early = 0;
+      }
+      ∷ [];
+  fixed = record { plate = 0; shape = at 0 0 ∷ at 1 0 ∷ at 1 1 ∷ at 0 1 ∷ []; x = 0; y = 0; from = 0; to = 0 } ∷ [];
+}
+
+demand_of_pinned : demand (choices pinned) [] 0 1 ≡ 12
+unfolding choices
+demand_of_pinned = refl
+
+-- the supply is 12 less what the piece takes
+piece_takes_one : used (choices pinned) [] 0 1 ≡ 1
+unfolding choices standing
+piece_takes_one = refl
+
+-- a piece takes nothing after its days
+piece_takes_none : used (choices pinned) [] 1 5 ≡ 0
+unfolding choices standing
+piece_takes_none = refl
+
+-- a block that costs 2 for each day before its due day 5 and 1 for each day after it
+abbrev soon : Block
+soon = record {
+  name = 65 ∷ [];
+  shape = at 0 0 ∷ at 2 0 ∷ at 2 2 ∷ at 0 2 ∷ [];
+  turns = true ∷ false ∷ false ∷ false ∷ [];
+  duration = 2;
+  release = 0;
+  due = 5;
+  weight = 1;
+  early = 2;
+}
+
+early_costs : cost_on soon 3 ≡ 4
+early_costs = refl
+
+due_costs_nothing : cost_on soon 5 ≡ 0
+due_costs_nothing = refl
+
+late_costs : cost_on soon 7 ≡ 2
+late_costs = refl

@@ -1,22 +1,23 @@
--- It can be told which codes of a yard clash.
-use Rattle.std.proofs.Common.{◌≡◌, ℕ, zero, suc, List, [], ◌∷◌, Option, Some, None, ◌⊎◌, refl, sym, ◌∙◌, subst, inl, inr, arith}
+-- It can be told which codes of a yard clash, and which meet a piece.
+use Rattle.std.proofs.Common.{◌≡◌, ℕ, zero, suc, ◌<◌, length, List, [], ◌∷◌, Option, Some, None, ◌⊎◌, refl, sym, ◌∙◌, subst, inl, inr, arith}
 use lib.IntN.{ℤ, pos, negsuc}
 use Rattle.std.proofs.lemmas.Int.{ints}
 use Rattle.std.specs.Prelude.{slice_get, All, Any}
 use lib.Signed.{◌<ℤ◌, ◌≤ℤ◌}
 use Rattle.std.proofs.lemmas.Bool.{cases_lt, cases_order}
-use Rattle.std.proofs.lemmas.Option.{none-some, same_Some}
-use Rattle.std.proofs.lemmas.List.Elements.{All-nil, All-cons}
+use Rattle.std.proofs.lemmas.Option.{none-some, same_Some, slice_get_within, get_or_from_slice_get}
+use Rattle.std.proofs.lemmas.List.Elements.{All-nil, All-cons, All-contains}
 use Rattle.shape_exact.specs.Shapes.{IsShape, AreApart, turned, edges, cross}
 use Rattle.shape_exact.specs.Separation.{HasSeparatingEdge, EachEdgeSees, moved, way}
-use Rattle.shape_exact.specs.Yards.{PlainYard, IsYard}
+use Rattle.shape_exact.specs.Yards.{PlainYard, IsYard, IsPiece, piece_at}
+use Rattle.shape_exact.specs.declared.fixed.Fixed.{Fixed}
 use Rattle.shape_exact.specs.declared.point.Point.{Point}
 use Rattle.shape_exact.specs.declared.block.Block.{Block}
 use Rattle.shape_exact.proofs.ApartLaws.{separation, apart_both, shared, shared_not_apart}
 use Rattle.shape_exact.proofs.FormLaws.{shape-turned}
 use Rattle.code_table.specs.declared.placement.Placement.{Placement}
 use Rattle.code_table.specs.Placements.{placements}
-use Rattle.plan_rule.specs.Clashes.{place_of, Meet, Clash}
+use Rattle.plan_rule.specs.Clashes.{place_of, PlacementsClash, Clash, MeetPiece, MeetsPiece}
 use Rattle.plan_rule.specs.Yards.{choices}
 use Rattle.plan_rule.proofs.YardLaws.{block_of}
 use Rattle.plan_rule.proofs.ExistLaws.{IsDecided}
@@ -63,9 +64,9 @@ equal_or_not m n = elim (cases_order m n) [
   | inr differ ↦ inr (λ e. elim differ [ inl l ↦ absurd (omega arith) | inr l ↦ absurd (omega arith) ])
 ]
 
-meet_or_not : (one : Block) (p : Placement) (two : Block) (q : Placement) → IsShape one.shape → IsShape two.shape
-    → Meet one p two q ⊎ (Meet one p two q → ⊥)
-meet_or_not one p two q s t = elim (equal_or_not p.plate q.plate) [
+placements_clash_or_not : (one : Block) (p : Placement) (two : Block) (q : Placement) → IsShape one.shape → IsShape two.shape
+    → PlacementsClash one p two q ⊎ (PlacementsClash one p two q → ⊥)
+placements_clash_or_not one p two q s t = elim (equal_or_not p.plate q.plate) [
   | inr other ↦ inr (λ m. other m.plate)
   | inl plate ↦ elim (cases_lt q.end p.start) [
     | inl before ↦ inr (λ m. let l = m.first_starts in absurd (omega arith))
@@ -88,14 +89,78 @@ clash_by yard a x b y (Some one) None p q is e f g h = inr (λ c. none-some c.tw
 clash_by yard a x b y (Some one) (Some two) None q is e f g h = inr (λ c. none-some c.p (sym g ∙ c.p_is))
 clash_by yard a x b y (Some one) (Some two) (Some p) None is e f g h = inr (λ c. none-some c.q (sym h ∙ c.q_is))
 clash_by yard a x b y (Some one) (Some two) (Some p) (Some q) is e f g h =
-    elim (meet_or_not one p two q (block_of yard a one is e).shape (block_of yard b two is f).shape) [
-      | inl meet ↦ inl (record { one = one; two = two; p = p; q = q; one_is = e; two_is = f; p_is = g; q_is = h; meet = meet })
+    elim (placements_clash_or_not one p two q (block_of yard a one is e).shape (block_of yard b two is f).shape) [
+      | inl clash ↦ inl (record { one = one; two = two; p = p; q = q; one_is = e; two_is = f; p_is = g; q_is = h; clash = clash })
       | inr free ↦ inr (λ c. free
-          (subst (λ k. Meet k p two q) (same_Some _ _ (sym c.one_is ∙ e)) (subst (λ k. Meet c.one p k q) (same_Some _ _ (sym c.two_is ∙ f))
-          (subst (λ k. Meet c.one k c.two q) (same_Some _ _ (sym c.p_is ∙ g)) (subst (λ k. Meet c.one c.p c.two k) (same_Some _ _ (sym c.q_is ∙ h)) c.meet)))))
+          (subst (λ k. PlacementsClash k p two q) (same_Some _ _ (sym c.one_is ∙ e)) (subst (λ k. PlacementsClash c.one p k q) (same_Some _ _ (sym c.two_is ∙ f))
+          (subst (λ k. PlacementsClash c.one k c.two q) (same_Some _ _ (sym c.p_is ∙ g)) (subst (λ k. PlacementsClash c.one c.p c.two k) (same_Some _ _ (sym c.q_is ∙ h)) c.clash)))))
     ]
 
--- the clashes of a yard can be told
+meet_piece_or_not : (block : Block) (p : Placement) (f : Fixed) → IsShape block.shape → IsShape f.shape
+    → MeetPiece block p f ⊎ (MeetPiece block p f → ⊥)
+meet_piece_or_not block p f s t = elim (equal_or_not p.plate f.plate) [
+  | inr other ↦ inr (λ m. other m.plate)
+  | inl plate ↦ elim (cases_lt f.to p.start) [
+    | inl before ↦ inr (λ m. let l = m.starts in absurd (omega arith))
+    | inr first ↦ elim (cases_lt p.end f.from) [
+      | inl after ↦ inr (λ m. let l = m.ends in absurd (omega arith))
+      | inr second ↦ elim (apart_or_not (turned p.turn block.shape) f.shape (place_of p) (piece_at f) (shape-turned p.turn block.shape s) t) [
+        | inl apart ↦ inr (λ m. m.shapes apart)
+        | inr together ↦ inl (record { plate = plate; starts = first; ends = second; shapes = together })
+      ]
+    ]
+  ]
+]
+
+-- the piece with this number, where there is one
+piece_of : (yard : PlainYard) (i : ℕ) (f : Fixed) → IsYard yard → slice_get yard.fixed i ≡ Some f → IsPiece yard.days yard.plates f
+piece_of yard i f is e = All-contains (IsPiece yard.days yard.plates) yard.fixed f is.fixed (i, slice_get_within yard.fixed i f e, get_or_from_slice_get yard.fixed i f f e)
+
+meets_by : (yard : PlainYard) (b x i : ℕ) (block : Option Block) (p : Option Placement) (piece : Option Fixed) → IsYard yard
+    → slice_get yard.blocks b ≡ block → slice_get (placements yard b) x ≡ p → slice_get yard.fixed i ≡ piece
+    → MeetsPiece yard b x i ⊎ (MeetsPiece yard b x i → ⊥)
+meets_by yard b x i None p piece is e f g = inr (λ m. none-some m.block (sym e ∙ m.block_is))
+meets_by yard b x i (Some block) None piece is e f g = inr (λ m. none-some m.p (sym f ∙ m.p_is))
+meets_by yard b x i (Some block) (Some p) None is e f g = inr (λ m. none-some m.piece (sym g ∙ m.piece_is))
+meets_by yard b x i (Some block) (Some p) (Some piece) is e f g =
+    elim (meet_piece_or_not block p piece (block_of yard b block is e).shape (piece_of yard i piece is g).shape) [
+      | inl meet ↦ inl (record { block = block; p = p; piece = piece; block_is = e; p_is = f; piece_is = g; meet = meet })
+      | inr free ↦ inr (λ m. free
+          (subst (λ k. MeetPiece k p piece) (same_Some _ _ (sym m.block_is ∙ e)) (subst (λ k. MeetPiece m.block k piece) (same_Some _ _ (sym m.p_is ∙ f))
+          (subst (λ k. MeetPiece m.block m.p k) (same_Some _ _ (sym m.piece_is ∙ g)) m.meet))))
+    ]
+
+-- the placement of the code meets a piece
+abbrev MeetsOne : PlainYard → ℕ → ℕ → Type 0
+MeetsOne yard b x = (i : ℕ) × MeetsPiece yard b x i
+
+some_below : (yard : PlainYard) (b x n : ℕ) → IsYard yard
+    → MeetsOne yard b x ⊎ ((i : ℕ) → i < n → MeetsPiece yard b x i → ⊥)
+some_below yard b x zero is = inr (λ i l. absurd (omega arith))
+some_below yard b x (suc n) is = elim (some_below yard b x n is) [
+  | inl some ↦ inl some
+  | inr none ↦ elim (meets_by yard b x n _ _ _ is refl refl refl) [
+    | inl here ↦ inl (n, here)
+    | inr free ↦ inr (λ i l m. elim (cases_lt i n) [
+      | inl below ↦ none i below m
+      | inr last ↦ free (subst (λ i. MeetsPiece yard b x i) (let e : i ≡ n = omega arith in e) m)
+    ])
+  ]
+]
+
+told_meets : (yard : PlainYard) (b x : ℕ) → IsYard yard → MeetsOne yard b x ⊎ (MeetsOne yard b x → ⊥)
+told_meets yard b x is = elim (some_below yard b x (length yard.fixed) is) [
+  | inl some ↦ inl some
+  | inr none ↦ inr (λ m. none m.0 (slice_get_within yard.fixed m.0 m.1.piece m.1.piece_is) m.1)
+]
+
+told_clash : (yard : PlainYard) (a x b y : ℕ) → IsYard yard → Clash yard a x b y ⊎ (Clash yard a x b y → ⊥)
+told_clash yard a x b y is = clash_by yard a x b y (slice_get yard.blocks a) (slice_get yard.blocks b) (slice_get (placements yard a) x) (slice_get (placements yard b) y) is refl refl refl refl
+
+-- the clashes of a yard, and its meetings with pieces, can be told
 pub told : (yard : PlainYard) → IsYard yard → IsDecided (choices yard)
 unfolding choices
-told yard is a x b y = clash_by yard a x b y (slice_get yard.blocks a) (slice_get yard.blocks b) (slice_get (placements yard a) x) (slice_get (placements yard b) y) is refl refl refl refl
+told yard is = record {
+  clash = λ a x b y. told_clash yard a x b y is;
+  meets = λ b x. told_meets yard b x is;
+}

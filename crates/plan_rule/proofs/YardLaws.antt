@@ -1,28 +1,29 @@
 -- What is so of the figures of a yard.
-use Rattle.std.proofs.Common.{◌≡◌, ℕ, zero, suc, ◌+◌, ◌-◌, ◌*◌, ◌<◌, ◌≤◌, max, min, List, length, Some, ◌⊎◌, refl, sym, ap, ◌∙◌, subst, inl, inr, arith, [], ◌∷◌}
+use Rattle.std.proofs.Common.{◌≡◌, ℕ, zero, suc, ◌+◌, ◌-◌, ◌*◌, ◌<◌, ◌≤◌, max, min, List, length, Option, Some, None, ◌⊎◌, refl, sym, ap, ◌∙◌, subst, inl, inr, arith, [], ◌∷◌}
 use Rattle.std.specs.Prelude.{slice_get}
 use Rattle.std.specs.Option.{option_map_or}
 use Rattle.std.proofs.lemmas.Bool.{cases_lt}
 use Rattle.std.proofs.lemmas.Nat.{mul-le}
 use Rattle.std.proofs.lemmas.Option.{slice_get_within, get_or_from_slice_get}
 use Rattle.std.proofs.lemmas.List.Elements.{All-contains}
-use Rattle.shape_exact.specs.Yards.{PlainYard, IsYard, IsBlock}
+use Rattle.shape_exact.specs.Yards.{PlainYard, IsYard, IsBlock, IsPiece}
+use Rattle.shape_exact.specs.declared.fixed.Fixed.{Fixed}
 use Rattle.shape_exact.specs.declared.block.Block.{Block}
 use Rattle.shape_exact.specs.Shapes.{cells}
 use Rattle.shape_exact.proofs.TurnLaws.{turns_keep}
 use Rattle.shape_exact.proofs.FormLaws.{normal}
 use Rattle.shape_exact.specs.Each.{sum_below, for_some}
-use Rattle.shape_exact.proofs.EachLaws.{sum-swap, sum-le}
+use Rattle.shape_exact.proofs.EachLaws.{sum-swap, sum-le, sum-add}
 use Rattle.plate_calendar.proofs.DayLaws.{end_law}
 use Rattle.code_table.specs.declared.placement.Placement.{Placement}
-use Rattle.code_table.specs.Placements.{placements, placements_of, own_cost, cost_of, IsPlacement}
+use Rattle.code_table.specs.Placements.{placements, placements_of, own_cost, cost_of, cost_on, IsPlacement}
 use Rattle.code_table.proofs.PlacedLaws.{placed-facts}
 use Rattle.plan_rule.specs.Choices.{blocks, count}
 use Rattle.plan_rule.specs.Plans.{code_of, IsFeasible}
-use Rattle.plan_rule.specs.Yards.{figure, plate_days, capacity, taken_by, taken, choices}
+use Rattle.plan_rule.specs.Yards.{figure, plate_days, capacity, taken_by, taken, stood_by, standing, choices}
 use Rattle.plan_rule.proofs.CountLaws.{blocks-length, count-length}
 use Rattle.plan_rule.proofs.EnergyLaws.{IsPacked}
-use Rattle.plan_rule.proofs.PackLaws.{covered_at, taken-le, plate-le}
+use Rattle.plan_rule.proofs.PackLaws.{covered_at, stood_of, piece_at_plate, block_at_plate, taken-le, stood-le, plate-le}
 
 -- a block of a yard is within the limits
 pub block_of : (yard : PlainYard) (b : ℕ) (block : Block) → IsYard yard → slice_get yard.blocks b ≡ Some block → IsBlock block
@@ -70,19 +71,34 @@ code-le yard q first last b fit f l =
     (sym c.block_is)
     (subst (λ r. taken_by yard first last (Some c.block) r ≤ sum_below (length yard.plates) (covered_at yard first last (Some c.block) r)) (sym c.p_is) le)
 
+-- what a piece takes is covered
+piece-le : (yard : PlainYard) (first last k : ℕ) (o : Option Fixed) → IsYard yard → slice_get yard.fixed k ≡ o
+    → option_map_or (stood_by yard first last) o 0
+    ≤ sum_below (length yard.plates) (λ pl. option_map_or (λ plate. option_map_or (λ f. stood_of yard first last f pl plate) o 0) (slice_get yard.plates pl) 0)
+piece-le yard first last k None is e = omega arith
+piece-le yard first last k (Some f) is e =
+    stood-le yard k f first last (All-contains (IsPiece yard.days yard.plates) yard.fixed f is.fixed
+    (k, slice_get_within yard.fixed k f e, get_or_from_slice_get yard.fixed k f f e))
+
 fits-choices : (yard : PlainYard) (q : List ℕ) (first last : ℕ) → IsYard yard → IsFeasible (choices yard) q
-    → sum_below (blocks (choices yard)) (λ b. taken yard first last b (code_of q b)) ≤ capacity yard first last
-unfolding capacity
+    → standing yard first last + sum_below (blocks (choices yard)) (λ b. taken yard first last b (code_of q b)) ≤ capacity yard first last
+unfolding capacity standing
 fits-choices yard q first last fit f =
     let n : ℕ = blocks (choices yard) in
-    let at : ℕ → ℕ → ℕ = λ b. covered_at yard first last (slice_get yard.blocks b) (slice_get (placements yard b) (code_of q b)) in
+    let m : ℕ = length yard.fixed in
+    let at : ℕ → ℕ → ℕ = λ b pl. block_at_plate yard q first last pl (slice_get yard.plates pl) b in
+    let by : ℕ → ℕ → ℕ = λ k pl. piece_at_plate yard first last pl (slice_get yard.plates pl) k in
     let codes : sum_below n (λ b. taken yard first last b (code_of q b)) ≤ sum_below n (λ b. sum_below (length yard.plates) (at b)) =
     sum-le n _ _ (λ b l. code-le yard q first last b fit f l) in
+    let pieces : sum_below m (λ i. option_map_or (stood_by yard first last) (slice_get yard.fixed i) 0) ≤ sum_below m (λ k. sum_below (length yard.plates) (by k)) =
+    sum-le m _ _ (λ k l. piece-le yard first last k (slice_get yard.fixed k) fit refl) in
     let swap = sum-swap n (length yard.plates) at in
-    let plates : sum_below (length yard.plates) (λ pl. sum_below n (λ b. at b pl))
+    let swap' = sum-swap m (length yard.plates) by in
+    let both = sum-add (length yard.plates) (λ pl. sum_below m (λ k. by k pl)) (λ pl. sum_below n (λ b. at b pl)) in
+    let plates : sum_below (length yard.plates) (λ pl. sum_below m (λ k. by k pl) + sum_below n (λ b. at b pl))
     ≤ sum_below (length yard.plates) (λ p. option_map_or (λ plate. plate_days yard first last plate * (plate.height * plate.width)) (slice_get yard.plates p) 0) =
-    sum-le (length yard.plates) _ _ (λ pl l. plate-le yard q first last pl (slice_get yard.plates pl) f) in
-    omega (arith, codes, swap, plates)
+    sum-le (length yard.plates) _ _ (λ pl l. plate-le yard q first last pl (slice_get yard.plates pl) fit f) in
+    omega (arith, codes, pieces, swap, swap', both, plates)
 
 whole_or_late-choices : (yard : PlainYard) (b code first last : ℕ) → IsYard yard → b < blocks (choices yard) → code < count (choices yard) b
     → first ≤ figure yard (λ block. block.release) b → figure yard (λ block. block.due) b ≤ last
@@ -100,7 +116,7 @@ whole_or_late-choices yard b code first last fit l m early due =
     let k = at (λ block. block.duration * cells block.shape) in
     elim (cases_lt last c.p.end) [
       | inl late ↦
-          let cost : own_cost yard b code ≡ c.block.weight * (c.p.end - c.block.due) =
+          let cost : own_cost yard b code ≡ cost_on c.block c.p.end =
           ap (λ o. cost_of o (slice_get (placements yard b) code)) c.block_is ∙ ap (cost_of (Some c.block)) c.p_is in
           let more = mul-le c.block.weight (last + 1 - c.block.due) c.block.weight (c.p.end - c.block.due) (omega arith) (omega arith) in
           inr (

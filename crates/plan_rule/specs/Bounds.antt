@@ -3,9 +3,9 @@ use Rattle.std.specs.Option.{option_map_or}
 use Rattle.shape_exact.specs.Each.{sum_below}
 use Rattle.std.specs.Prelude.{◌-◌, ◌*◌, Bool, true, false, ◌&&◌, nat_le, is_none, if◌then◌else◌, ◌≡◌, ℕ, zero, suc, ◌+◌, ◌<◌, ◌≤◌, List, Option, Some, None, ◌⊎◌, Any}
 use Rattle.plan_rule.specs.declared.literal.Literal.{Literal}
-use Rattle.plan_rule.specs.Choices.{Choices, blocks, count}
+use Rattle.plan_rule.specs.Choices.{Choices, MeetsSome, blocks, count}
 use Rattle.plan_rule.specs.Plans.{code_of, total}
-use Rattle.plan_rule.specs.Boxes.{Fixes, fixed_code}
+use Rattle.plan_rule.specs.Boxes.{HasExact, exact_code}
 
 -- the least value of the numbers with a property; none where no number has it
 abbrev pub IsLeastOf : (ℕ → Type 0) → (ℕ → ℕ) → Option ℕ → Type 0
@@ -23,15 +23,16 @@ abbrev pub IsBound : (ℕ → ℕ → Type 0) → (ℕ → ℕ → ℕ) → ℕ 
 IsBound May cost n None = (b : ℕ) × (b < n) × ((code : ℕ) → May b code → ⊥)
 IsBound May cost n (Some k) = IsSumOfLeast May cost n k
 
--- a code of the block; where the box fixes the block, the code that it is fixed to
+-- a code of the block; where the block is exact in the box, its exact code
 abbrev pub MayTake : Choices → List Literal → ℕ → ℕ → Type 0
-MayTake c box b code = (code < count c b) × ((d : ℕ) → Fixes box b d → code ≡ d)
+MayTake c box b code = (code < count c b) × ((d : ℕ) → HasExact box b d → code ≡ d)
 
--- besides, where the box does not fix the block, the code clashes with no code that the box fixes
+-- besides, where the block is not exact in the box, the code clashes with no exact code of the box, and meets no piece
 abbrev pub MayFit : Choices → List Literal → ℕ → ℕ → Type 0
 MayFit c box b code =
     MayTake c box b code
-    × (fixed_code box b ≡ None → (a d : ℕ) → Fixes box a d → c.Clash a d b code → ⊥)
+    × (exact_code box b ≡ None → (a d : ℕ) → HasExact box a d → c.Clash a d b code → ⊥)
+    × (exact_code box b ≡ None → MeetsSome c b code → ⊥)
 
 -- the number, or Never, that is the base of the box
 abbrev pub IsBase : Choices → List Literal → Option ℕ → Type 0
@@ -41,17 +42,17 @@ IsBase c box r = IsBound (MayTake c box) c.cost (blocks c) r
 abbrev pub IsFit : Choices → List Literal → Option ℕ → Type 0
 IsFit c box r = IsBound (MayFit c box) c.cost (blocks c) r
 
--- the block is not fixed, is released in the window or later, and is due in it or earlier
+-- the block is not exact, is released in the window or later, and is due in it or earlier
 abbrev pub presses : Choices → List Literal → ℕ → ℕ → ℕ → Bool
-presses c box first last b = is_none (fixed_code box b) && nat_le first (c.release b) && nat_le (c.due b) last
+presses c box first last b = is_none (exact_code box b) && nat_le first (c.release b) && nat_le (c.due b) last
 
 -- the work of the blocks that press
 abbrev pub demand : Choices → List Literal → ℕ → ℕ → ℕ
 demand c box first last = sum_below (blocks c) (λ b. if presses c box first last b then c.work b else 0)
 
--- what the fixed codes take in the window
+-- what the pieces and the exact codes take in the window
 abbrev pub used : Choices → List Literal → ℕ → ℕ → ℕ
-used c box first last = sum_below (blocks c) (λ b. option_map_or (c.taken first last b) (fixed_code box b) 0)
+used c box first last = c.standing first last + sum_below (blocks c) (λ b. option_map_or (c.taken first last b) (exact_code box b) 0)
 
 -- what a block that ends after the window costs at least, above its least own cost
 abbrev pub IsRaise : Choices → ℕ → ℕ → ℕ → Type 0
@@ -83,12 +84,12 @@ IsEnergy c first last box (Some r) =
     × ((IsCalm c box first last × (r ≡ k))
     ⊎ (IsTight c box first last × (last + 1 < c.days) × ((v : ℕ) × IsLeastRaise c box first last v × (r ≡ k + v))))
 
--- among n blocks, the box fixes the first ones to the codes of the plan p, up to one whose codes in the box are above
--- p's, or it fixes every block so; then every plan in it is p, or lexicographically after it
+-- among n blocks, the first ones are exact in the box with the codes of the plan p, up to one whose codes in the box are
+-- above p's, or every block is exact so; then every plan in it is p, or lexicographically after it
 abbrev pub IsBehindOn : ℕ → List Literal → List ℕ → Type 0
 IsBehindOn n box p =
-    ((j : ℕ) × (j < n) × ((b : ℕ) → b < j → Fixes box b (code_of p b)) × Any (λ l. (l.block ≡ j) × (code_of p j < l.lo)) box)
-    ⊎ ((b : ℕ) → b < n → Fixes box b (code_of p b))
+    ((j : ℕ) × (j < n) × ((b : ℕ) → b < j → HasExact box b (code_of p b)) × Any (λ l. (l.block ≡ j) × (code_of p j < l.lo)) box)
+    ⊎ ((b : ℕ) → b < n → HasExact box b (code_of p b))
 
 -- the same among all blocks
 abbrev pub IsBehind : Choices → List Literal → List ℕ → Type 0

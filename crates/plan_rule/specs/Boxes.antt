@@ -43,13 +43,13 @@ abbrev pub exact : ℕ → ℕ → Literal
 exact b code = record { block = b; lo = code; hi = code + 1 }
 
 -- the code to which a box fixes a block, by a literal of that one code
-abbrev pub fixed_code : List Literal → ℕ → Option ℕ
-fixed_code [] b = None
-fixed_code (l ∷ box) b = if l.block == b then (if l.hi == l.lo + 1 then Some l.lo else None) else fixed_code box b
+abbrev pub exact_code : List Literal → ℕ → Option ℕ
+exact_code [] b = None
+exact_code (l ∷ box) b = if l.block == b then (if l.hi == l.lo + 1 then Some l.lo else None) else exact_code box b
 
 -- the box fixes the block to this code
-abbrev pub Fixes : List Literal → ℕ → ℕ → Type 0
-Fixes box b code = fixed_code box b ≡ Some code
+abbrev pub HasExact : List Literal → ℕ → ℕ → Type 0
+HasExact box b code = exact_code box b ≡ Some code
 
 -- the box has no literal on the block
 abbrev pub LeavesFree : List Literal → ℕ → Type 0

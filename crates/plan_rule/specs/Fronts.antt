@@ -49,7 +49,7 @@ pub record IsLeft (c : Choices) (front w : ℕ) (left : Left) : Type 0 where
   pub m : ℕ
   pub enough : w ≤ m
   pub few : w ≤ 32
-  pub fixed : (b : ℕ) → b < length left.exact → code_of left.exact b < count c b
+  pub are_codes : (b : ℕ) → b < length left.exact → code_of left.exact b < count c b
   pub part : IsPart (path c) c.counts 32 front w left.exact m left.lo left.hi (drop (length left.exact) c.counts)
 
 -- what the next bit leaves; none where it leaves no plan

@@ -50,10 +50,10 @@ IsChain from (job ∷ jobs) to = (job.front ≡ from) × IsChain (from + width j
 abbrev pub Tile : List Job → Type 0
 Tile jobs = (ordered : List Job) × IsPermutation jobs ordered × IsChain 0 ordered (2 ^ 32)
 
--- the answer is within a bar: a plan whose key is at most the bar, or none where the bar is the greatest u64
+-- the answer is within a bar: a plan of the yard whose key is at most the bar, or none where the bar is the greatest u64
 abbrev pub IsWithin : Choices → Option (List ℕ) → ℕ → Type 0
 IsWithin c None bar = bar ≡ 2 ^ 64 - 1
-IsWithin c (Some p) bar = key c p ≤ bar
+IsWithin c (Some p) bar = IsPlan c p × (key c p ≤ bar)
 
 -- the bound is Never, or above the total that the bar leaves
 abbrev pub IsAboveBar : Option ℕ → ℕ → Type 0

@@ -5,13 +5,14 @@ use Rattle.std.specs.Option.{option_map_or}
 use Rattle.shape_exact.specs.Yards.{PlainYard}
 use Rattle.shape_exact.specs.declared.block.Block.{Block}
 use Rattle.shape_exact.specs.declared.plate.Plate.{Plate}
+use Rattle.shape_exact.specs.declared.fixed.Fixed.{Fixed}
 use Rattle.shape_exact.specs.Shapes.{cells}
 use Rattle.plate_calendar.specs.Calendars.{open_days, open_between}
 use Rattle.shape_exact.specs.Each.{sum_below}
 use Rattle.code_table.specs.declared.placement.Placement.{Placement}
 use Rattle.code_table.specs.Placements.{placements, own_cost}
 use Rattle.plan_rule.specs.Choices.{Choices}
-use Rattle.plan_rule.specs.Clashes.{Clash}
+use Rattle.plan_rule.specs.Clashes.{Clash, MeetsPiece}
 
 -- a figure of the block with this number
 abbrev pub figure : PlainYard → (Block → ℕ) → ℕ → ℕ
@@ -38,12 +39,23 @@ taken_by yard first last (Some block) (Some p) =
 unfoldable pub taken : PlainYard → ℕ → ℕ → ℕ → ℕ → ℕ
 taken yard first last b code = taken_by yard first last (slice_get yard.blocks b) (slice_get (placements yard b) code)
 
--- the blocks' codes, their costs and their clashes, and the figures for the energy
+-- what a piece takes: its cells, once for each open day of its plate in its days and in a window
+abbrev pub stood_by : PlainYard → ℕ → ℕ → Fixed → ℕ
+stood_by yard first last f =
+    option_map_or (plate_days yard (max first f.from) (min last f.to)) (slice_get yard.plates f.plate) 0 * cells f.shape
+
+-- what the pieces take in a window
+unfoldable pub standing : PlainYard → ℕ → ℕ → ℕ
+standing yard first last =
+    sum_below (length yard.fixed) (λ i. option_map_or (stood_by yard first last) (slice_get yard.fixed i) 0)
+
+-- the blocks' codes, their costs, their clashes and which of them meet a piece, and the figures for the energy
 unfoldable pub choices : PlainYard → Choices
 choices yard = record {
   counts = map (λ b. length (placements yard b)) (range_with_len 0 (length yard.blocks));
   cost = own_cost yard;
   Clash = Clash yard;
+  Meets = MeetsPiece yard;
   days = yard.days;
   release = figure yard (λ block. block.release);
   due = figure yard (λ block. block.due);
@@ -51,4 +63,5 @@ choices yard = record {
   work = figure yard (λ block. block.duration * cells block.shape);
   capacity = capacity yard;
   taken = taken yard;
+  standing = standing yard;
 }

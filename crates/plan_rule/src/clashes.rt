@@ -2,8 +2,8 @@
 ghost use Rattle.std.specs.Prelude.{◌≡◌, ◌≢◌, ◌↔◌, ◌<◌, ◌≤◌, IsTrue, MatchOption};
 ghost use Rattle.shape_exact.specs.Separation.{IsWithin};
 ghost use Rattle.plan_rule.specs.Choices.{IsCode, blocks};
-ghost use Rattle.plan_rule.specs.Clashes.{MayMeet, place_of};
-ghost use Rattle.plan_rule.specs.Plans.{IsPlan, IsFeasible};
+ghost use Rattle.plan_rule.specs.Clashes.{MayClash, place_of};
+ghost use Rattle.plan_rule.specs.Plans.{IsPlan, HasNoClash};
 ghost use Rattle.plan_rule.specs.Pairs.{IsFirstAfter, IsFirstPair, ClashesAfter};
 ghost use Rattle.plan_rule.specs.Yards.{choices};
 
@@ -24,8 +24,8 @@ pub fn corner(placement: Placement) -> Point
 }
 
 /// Whether two placements are on one plate and their spans share a day. Where they are not, no two blocks clash there.
-pub fn may_meet(one: Placement, two: Placement) -> bool
-    ensures { IsTrue result ↔ MayMeet one two }
+pub fn may_clash(one: Placement, two: Placement) -> bool
+    ensures { IsTrue result ↔ MayClash one two }
 {
     one.plate == two.plate && one.start <= two.end && two.start <= one.end
 }
@@ -40,7 +40,7 @@ pub fn clash(codes: &Codes, a: u8, code_a: u32, b: u8, code_b: u32) -> bool
 {
     let one = codes.place(a, code_a);
     let two = codes.place(b, code_b);
-    if !may_meet(one, two) {
+    if !may_clash(one, two) {
         return false;
     }
     let first = codes.shape(a, one.turn);
@@ -71,11 +71,10 @@ fn first_after(codes: &Codes, plan: &Plan, block: u8) -> Option<u8>
     None
 }
 
-/// The first pair of blocks i < j, by i and then by j, whose codes in the plan clash; None exactly where the plan is
-/// feasible.
+/// The first pair of blocks i < j, by i and then by j, whose codes in the plan clash; None exactly where no two do.
 pub fn first_clash(codes: &Codes, plan: &Plan) -> Option<(u8, u8)>
     requires { IsPlan (choices codes.now) plan.now }
-    ensures { MatchOption result (IsFeasible (choices codes.now) plan.now)
+    ensures { MatchOption result (HasNoClash (choices codes.now) plan.now)
         (λ pair. IsFirstPair (choices codes.now) plan.now pair.0 pair.1) }
 {
     for block in 0..block_count(codes) {

@@ -3,6 +3,7 @@ ghost use Rattle.plan_rule.specs.Bounds.{IsBase, IsEnergy, IsFit};
 ghost use Rattle.plan_rule.specs.Boxes.{IsBox};
 ghost use Rattle.plan_rule.specs.Laws.{AreSmall, IsSound, KeysFollow, PathsFollow};
 ghost use Rattle.plan_rule.specs.RegionBoxes.{RegionBoxHolds};
+ghost use Rattle.plan_rule.specs.Regions.{HasOnePart};
 ghost use Rattle.plan_rule.specs.Reports.{ReportsGiveBest};
 ghost use Rattle.plan_rule.specs.Yards.{choices};
 
@@ -44,6 +45,11 @@ pub fn energy_is_sound(codes: &Codes, side: &PlanBox, first: u16, last: u16)
 {
     let _yard = codes.yard();
 }
+
+/// A job's region is described by one part alone: the same exact codes and the same range.
+pub fn job_has_one_part(codes: &Codes, job: Job)
+    ensures { HasOnePart (choices codes.now) job }
+{}
 
 /// The box of a job's region holds the plans of the region, and no other plan.
 pub fn region_box_holds_region(codes: &Codes, job: Job)

@@ -61,7 +61,7 @@ pub(crate) struct Left {
     hi: u32,
 }
 
-/// Fixes each next block that has one code left.
+/// HasExact each next block that has one code left.
 fn settle(codes: &Codes, left: Left) -> Left
     requires few { blocks (choices codes.now) ≤ 32 }
     requires codes { HasCodes (choices codes.now) }
@@ -165,6 +165,7 @@ mod tests {
             release: 0,
             due: 1,
             weight: 1,
+            early: 0,
         });
         yard
     }

@@ -1,5 +1,5 @@
 -- What the line of a block tells is spelled so, and what is spelled so is told.
-use Rattle.std.proofs.Common.{◌≡◌, ℕ, ◌≤◌, Bool, true, cond, leb, ◌&&◌, List, [], ◌∷◌, ◌++◌, length, Option, Some, None, refl, sym, ap, subst, ◌∙◌, arith}
+use Rattle.std.proofs.Common.{◌≡◌, ℕ, ◌≤◌, Bool, true, false, cond, leb, ◌&&◌, List, [], ◌∷◌, ◌++◌, length, Option, Some, None, refl, sym, ap, subst, ◌∙◌, arith}
 use Rattle.std.specs.Prelude.{codes}
 use Rattle.std.specs.Fmt.{decimal}
 use Rattle.std.specs.List.{join_with_byte}
@@ -14,24 +14,40 @@ use Rattle.text_parts.proofs.CutLaws.{Lacks, cut-takes, cut-again}
 use Rattle.text_parts.proofs.NumberLaws.{number-takes, number-again}
 use Rattle.text_parts.proofs.FieldLaws.{Within, within_append, within_wider, field-takes, field-again, decimal_within, lacks_below}
 use Rattle.shape_exact.specs.Names.{is_name, is_name_byte, all_name_bytes}
-use Rattle.plan_text.specs.Rows.{Entry, name_of, after_word, part_after, figure_of, row_of, total_in}
+use Rattle.plan_text.specs.Rows.{Entry, name_of, after_word, part_after, figure_of, last_figures, row_of, total_in}
 
 -- a word, a space and what follows
 abbrev pub begins : List ℕ → List ℕ → List ℕ
 begins front rest = front ++ 32 ∷ rest
 
+-- the words on early days, where they are told
+abbrev pub early_words : Option ℕ → List (List ℕ)
+early_words None = []
+early_words (Some early) = codes "early" ∷ decimal early ∷ []
+
+-- the words with which the line of a block ends
+abbrev pub ending : ℕ → Option ℕ → List (List ℕ)
+ending late early = codes "tardiness" ∷ decimal late ∷ early_words early
+
 -- the words of the line of a block
 abbrev pub words : Entry → List (List ℕ)
 words e =
     codes "block" ∷ e.name ∷ codes "plate" ∷ e.plate ∷ codes "turn" ∷ decimal e.turn ∷ codes "x" ∷ decimal e.x ∷ codes "y" ∷ decimal e.y
-    ∷ codes "start" ∷ decimal e.start ∷ codes "end" ∷ decimal e.end ∷ codes "tardiness" ∷ decimal e.tardiness ∷ []
+    ∷ codes "start" ∷ decimal e.start ∷ codes "end" ∷ decimal e.end ∷ ending e.tardiness e.early
 
 -- the line without its line feed
 unfoldable pub row_text : Entry → List ℕ
 row_text e = join_with_byte 32 (words e)
 
--- what has a line
-pub record HasRow (e : Entry) : Type 0 where
+-- early days are told, or they are not
+abbrev pub HasEarly : Bool → Option ℕ → Type 0
+HasEarly true (Some early) = early ≤ 4294967295
+HasEarly true None = ⊥
+HasEarly false (Some early) = ⊥
+HasEarly false None = Unit {0}
+
+-- what has a line, with or without early days
+pub record HasRow (with_early : Bool) (e : Entry) : Type 0 where
   pub name : is_name e.name ≡ true
   pub plate : is_name e.plate ≡ true
   pub turn : e.turn ≤ 4294967295
@@ -40,6 +56,7 @@ pub record HasRow (e : Entry) : Type 0 where
   pub start : e.start ≤ 4294967295
   pub end : e.end ≤ 4294967295
   pub tardiness : e.tardiness ≤ 4294967295
+  pub early : HasEarly with_early e.early
 
 -- ---- parts
 
@@ -71,11 +88,36 @@ name_part word bs y e = part-takes name_of (λ name. name) (λ name. is_name nam
 figure_part : (word bs : List ℕ) (y : ℕ × List ℕ) → part_after figure_of word bs ≡ Some y → (bs ≡ begins word (begins (decimal y.0) y.1)) × (y.0 ≤ 4294967295)
 figure_part word bs y e = part-takes figure_of decimal IsFigure figure_takes word bs y e
 
+-- ---- the end of a line
+
+-- what the end of a line says
+record IsEnd (with_early : Bool) (text : List ℕ) (x : ℕ × Option ℕ) : Type 0 where
+  text_is : text ≡ join_with_byte 32 (ending x.0 x.1)
+  tardiness : x.0 ≤ 4294967295
+  early : HasEarly with_early x.1
+
+last-takes : (with_early : Bool) (text : List ℕ) (x : ℕ × Option ℕ) → last_figures with_early text ≡ Some x → IsEnd with_early text x
+last-takes false text x e =
+    let (rest, found, more) = bind_some (after_word (codes "tardiness") text) (λ rest. figure_of rest >>= λ late. Some (late, None)) x e in
+    let (late, figure, made) = bind_some (figure_of rest) (λ late. Some (late, None)) x more in
+    let is = figure_takes rest late figure in
+    subst (IsEnd false text) (same_Some (late, None) x made)
+    (record { text_is = after-takes (codes "tardiness") text rest found ∙ ap (begins (codes "tardiness")) is.0; tardiness = is.1; early = tt })
+last-takes true text x e =
+    let (late, found, more) = bind_some (part_after figure_of (codes "tardiness") text) (λ late. after_word (codes "early") late.1 >>= λ rest. figure_of rest >>= λ early. Some (late.0, Some early)) x e in
+    let (rest, word, figures) = bind_some (after_word (codes "early") late.1) (λ rest. figure_of rest >>= λ early. Some (late.0, Some early)) x more in
+    let (early, figure, made) = bind_some (figure_of rest) (λ early. Some (late.0, Some early)) x figures in
+    let first = figure_part (codes "tardiness") text late found in
+    let is = figure_takes rest early figure in
+    let ends = after-takes (codes "early") late.1 rest word ∙ ap (begins (codes "early")) is.0 in
+    subst (IsEnd true text) (same_Some (late.0, Some early) x made)
+    (record { text_is = first.0 ∙ ap (λ s. begins (codes "tardiness") (begins (decimal late.0) s)) ends; tardiness = first.1; early = is.1 })
+
 -- ---- the line of a block
 
 -- the texts from a label on
 abbrev from_tardiness : Entry → List ℕ
-from_tardiness e = begins (codes "tardiness") (decimal e.tardiness)
+from_tardiness e = join_with_byte 32 (ending e.tardiness e.early)
 
 abbrev from_end : Entry → List ℕ
 from_end e = begins (codes "end") (begins (decimal e.end) (from_tardiness e))
@@ -99,42 +141,41 @@ abbrev from_block : Entry → List ℕ
 from_block e = begins (codes "block") (begins e.name (from_plate e))
 
 -- what is read after each value
-abbrev made : List ℕ → List ℕ → ℕ → ℕ → ℕ → ℕ → ℕ → ℕ → Entry
-made name plate turn x y start end tardiness =
-    record { name = name; plate = plate; turn = turn; x = x; y = y; start = start; end = end; tardiness = tardiness }
+abbrev made : List ℕ → List ℕ → ℕ → ℕ → ℕ → ℕ → ℕ → ℕ × Option ℕ → Entry
+made name plate turn x y start end late =
+    record { name = name; plate = plate; turn = turn; x = x; y = y; start = start; end = end; tardiness = late.0; early = late.1 }
 
-abbrev with_end : List ℕ → List ℕ → ℕ → ℕ → ℕ → ℕ → ℕ × List ℕ → Option Entry
-with_end name plate turn x y start end =
-    after_word (codes "tardiness") end.1 >>= λ rest. figure_of rest >>= λ late. Some (made name plate turn x y start end.0 late)
+abbrev with_end : Bool → List ℕ → List ℕ → ℕ → ℕ → ℕ → ℕ → ℕ × List ℕ → Option Entry
+with_end told name plate turn x y start end = last_figures told end.1 >>= λ late. Some (made name plate turn x y start end.0 late)
 
-abbrev with_start : List ℕ → List ℕ → ℕ → ℕ → ℕ → ℕ × List ℕ → Option Entry
-with_start name plate turn x y start = part_after figure_of (codes "end") start.1 >>= with_end name plate turn x y start.0
+abbrev with_start : Bool → List ℕ → List ℕ → ℕ → ℕ → ℕ → ℕ × List ℕ → Option Entry
+with_start told name plate turn x y start = part_after figure_of (codes "end") start.1 >>= with_end told name plate turn x y start.0
 
-abbrev with_y : List ℕ → List ℕ → ℕ → ℕ → ℕ × List ℕ → Option Entry
-with_y name plate turn x y = part_after figure_of (codes "start") y.1 >>= with_start name plate turn x y.0
+abbrev with_y : Bool → List ℕ → List ℕ → ℕ → ℕ → ℕ × List ℕ → Option Entry
+with_y told name plate turn x y = part_after figure_of (codes "start") y.1 >>= with_start told name plate turn x y.0
 
-abbrev with_x : List ℕ → List ℕ → ℕ → ℕ × List ℕ → Option Entry
-with_x name plate turn x = part_after figure_of (codes "y") x.1 >>= with_y name plate turn x.0
+abbrev with_x : Bool → List ℕ → List ℕ → ℕ → ℕ × List ℕ → Option Entry
+with_x told name plate turn x = part_after figure_of (codes "y") x.1 >>= with_y told name plate turn x.0
 
-abbrev with_turn : List ℕ → List ℕ → ℕ × List ℕ → Option Entry
-with_turn name plate turn = part_after figure_of (codes "x") turn.1 >>= with_x name plate turn.0
+abbrev with_turn : Bool → List ℕ → List ℕ → ℕ × List ℕ → Option Entry
+with_turn told name plate turn = part_after figure_of (codes "x") turn.1 >>= with_x told name plate turn.0
 
-abbrev with_plate : List ℕ → List ℕ × List ℕ → Option Entry
-with_plate name plate = part_after figure_of (codes "turn") plate.1 >>= with_turn name plate.0
+abbrev with_plate : Bool → List ℕ → List ℕ × List ℕ → Option Entry
+with_plate told name plate = part_after figure_of (codes "turn") plate.1 >>= with_turn told name plate.0
 
-abbrev with_name : List ℕ × List ℕ → Option Entry
-with_name name = part_after name_of (codes "plate") name.1 >>= with_plate name.0
+abbrev with_name : Bool → List ℕ × List ℕ → Option Entry
+with_name told name = part_after name_of (codes "plate") name.1 >>= with_plate told name.0
 
-abbrev IsRow : List ℕ → Entry → Type 0
-IsRow line e = (line ≡ from_block e) × HasRow e
+abbrev IsRow : Bool → List ℕ → Entry → Type 0
+IsRow told line e = (line ≡ from_block e) × HasRow told e
 
-row_parts : (line : List ℕ) (name plate : List ℕ × List ℕ) (turn x y start end : ℕ × List ℕ) (rest : List ℕ) (late : ℕ)
+row_parts : (told : Bool) (line : List ℕ) (name plate : List ℕ × List ℕ) (turn x y start end : ℕ × List ℕ) (late : ℕ × Option ℕ)
     → part_after name_of (codes "block") line ≡ Some name → part_after name_of (codes "plate") name.1 ≡ Some plate
     → part_after figure_of (codes "turn") plate.1 ≡ Some turn → part_after figure_of (codes "x") turn.1 ≡ Some x
     → part_after figure_of (codes "y") x.1 ≡ Some y → part_after figure_of (codes "start") y.1 ≡ Some start
-    → part_after figure_of (codes "end") start.1 ≡ Some end → after_word (codes "tardiness") end.1 ≡ Some rest → figure_of rest ≡ Some late
-    → IsRow line (made name.0 plate.0 turn.0 x.0 y.0 start.0 end.0 late)
-row_parts line name plate turn x y start end rest late e0 e1 e2 e3 e4 e5 e6 e7 e8 =
+    → part_after figure_of (codes "end") start.1 ≡ Some end → last_figures told end.1 ≡ Some late
+    → IsRow told line (made name.0 plate.0 turn.0 x.0 y.0 start.0 end.0 late)
+row_parts told line name plate turn x y start end late e0 e1 e2 e3 e4 e5 e6 e7 =
     let t0 = name_part (codes "block") line name e0 in
     let t1 = name_part (codes "plate") name.1 plate e1 in
     let t2 = figure_part (codes "turn") plate.1 turn e2 in
@@ -142,40 +183,38 @@ row_parts line name plate turn x y start end rest late e0 e1 e2 e3 e4 e5 e6 e7 e
     let t4 = figure_part (codes "y") x.1 y e4 in
     let t5 = figure_part (codes "start") y.1 start e5 in
     let t6 = figure_part (codes "end") start.1 end e6 in
-    let t7 = after-takes (codes "tardiness") end.1 rest e7 in
-    let t8 = figure_takes rest late e8 in
-    let s6 = t6.0 ∙ ap (λ s. begins (codes "end") (begins (decimal end.0) s)) (t7 ∙ ap (begins (codes "tardiness")) t8.0) in
+    let t7 = last-takes told end.1 late e7 in
+    let s6 = t6.0 ∙ ap (λ s. begins (codes "end") (begins (decimal end.0) s)) t7.text_is in
     let s5 = t5.0 ∙ ap (λ s. begins (codes "start") (begins (decimal start.0) s)) s6 in
     let s4 = t4.0 ∙ ap (λ s. begins (codes "y") (begins (decimal y.0) s)) s5 in
     let s3 = t3.0 ∙ ap (λ s. begins (codes "x") (begins (decimal x.0) s)) s4 in
     let s2 = t2.0 ∙ ap (λ s. begins (codes "turn") (begins (decimal turn.0) s)) s3 in
     let s1 = t1.0 ∙ ap (λ s. begins (codes "plate") (begins plate.0 s)) s2 in (
       t0.0 ∙ ap (λ s. begins (codes "block") (begins name.0 s)) s1,
-      record { name = t0.1; plate = t1.1; turn = t2.1; x = t3.1; y = t4.1; start = t5.1; end = t6.1; tardiness = t8.1 },
+      record { name = t0.1; plate = t1.1; turn = t2.1; x = t3.1; y = t4.1; start = t5.1; end = t6.1; tardiness = t7.tardiness; early = t7.early },
     )
 
-row-parts : (line : List ℕ) (e : Entry) → row_of line ≡ Some e → IsRow line e
+row-parts : (told : Bool) (line : List ℕ) (e : Entry) → row_of told line ≡ Some e → IsRow told line e
 unfolding row_of
-row-parts line e h =
-    option_and_then_some with_name (part_after name_of (codes "block") line) e h (λ name e0 m0.
-    option_and_then_some (with_plate name.0) (part_after name_of (codes "plate") name.1) e m0 (λ plate e1 m1.
-    option_and_then_some (with_turn name.0 plate.0) (part_after figure_of (codes "turn") plate.1) e m1 (λ turn e2 m2.
-    option_and_then_some (with_x name.0 plate.0 turn.0) (part_after figure_of (codes "x") turn.1) e m2 (λ x e3 m3.
-    option_and_then_some (with_y name.0 plate.0 turn.0 x.0) (part_after figure_of (codes "y") x.1) e m3 (λ y e4 m4.
-    option_and_then_some (with_start name.0 plate.0 turn.0 x.0 y.0) (part_after figure_of (codes "start") y.1) e m4 (λ start e5 m5.
-    option_and_then_some (with_end name.0 plate.0 turn.0 x.0 y.0 start.0) (part_after figure_of (codes "end") start.1) e m5 (λ end e6 m6.
-    option_and_then_some (λ rest. figure_of rest >>= λ late. Some (made name.0 plate.0 turn.0 x.0 y.0 start.0 end.0 late)) (after_word (codes "tardiness") end.1) e m6 (λ rest e7 m7.
-    option_and_then_some (λ late. Some (made name.0 plate.0 turn.0 x.0 y.0 start.0 end.0 late)) (figure_of rest) e m7 (λ late e8 m8.
-    subst (IsRow line) (same_Some (made name.0 plate.0 turn.0 x.0 y.0 start.0 end.0 late) e m8)
-    (row_parts line name plate turn x y start end rest late e0 e1 e2 e3 e4 e5 e6 e7 e8))))))))))
+row-parts told line e h =
+    option_and_then_some (with_name told) (part_after name_of (codes "block") line) e h (λ name e0 m0.
+    option_and_then_some (with_plate told name.0) (part_after name_of (codes "plate") name.1) e m0 (λ plate e1 m1.
+    option_and_then_some (with_turn told name.0 plate.0) (part_after figure_of (codes "turn") plate.1) e m1 (λ turn e2 m2.
+    option_and_then_some (with_x told name.0 plate.0 turn.0) (part_after figure_of (codes "x") turn.1) e m2 (λ x e3 m3.
+    option_and_then_some (with_y told name.0 plate.0 turn.0 x.0) (part_after figure_of (codes "y") x.1) e m3 (λ y e4 m4.
+    option_and_then_some (with_start told name.0 plate.0 turn.0 x.0 y.0) (part_after figure_of (codes "start") y.1) e m4 (λ start e5 m5.
+    option_and_then_some (with_end told name.0 plate.0 turn.0 x.0 y.0 start.0) (part_after figure_of (codes "end") start.1) e m5 (λ end e6 m6.
+    option_and_then_some (λ late. Some (made name.0 plate.0 turn.0 x.0 y.0 start.0 end.0 late)) (last_figures told end.1) e m6 (λ late e7 m7.
+    subst (IsRow told line) (same_Some (made name.0 plate.0 turn.0 x.0 y.0 start.0 end.0 late) e m7)
+    (row_parts told line name plate turn x y start end late e0 e1 e2 e3 e4 e5 e6 e7)))))))))
 
 -- the text by its words
 by_words : (e : Entry) → row_text e ≡ from_block e
 unfolding row_text
 by_words e = refl
 
-pub row-takes : (line : List ℕ) (e : Entry) → row_of line ≡ Some e → (line ≡ row_text e) × HasRow e
-row-takes line e h = let (spelled, fits) = row-parts line e h in (spelled ∙ sym (by_words e), fits)
+pub row-takes : (told : Bool) (line : List ℕ) (e : Entry) → row_of told line ≡ Some e → (line ≡ row_text e) × HasRow told e
+row-takes told line e h = let (spelled, fits) = row-parts told line e h in (spelled ∙ sym (by_words e), fits)
 
 -- ---- and back
 
@@ -207,9 +246,19 @@ figure_again word n rest lacks le =
     let digits = lacks_below 32 48 57 (decimal n) (omega arith) (decimal_within n (omega arith)) in
     rw (cut-again 32 word (begins (decimal n) rest) lacks, same) (field-again figure_of (decimal n) n 32 rest digits (number-again 4294967295 n (omega arith) le))
 
-parts_again : (e : Entry) → HasRow e → row_of (from_block e) ≡ Some e
+last-again : (told : Bool) (late : ℕ) (early : Option ℕ) → late ≤ 4294967295 → HasEarly told early → last_figures told (join_with_byte 32 (ending late early)) ≡ Some (late, early)
+last-again false late None le has = rw (number-again 4294967295 late (omega arith) le) refl
+last-again false late (Some early) le has = absurd has
+last-again true late None le has = absurd has
+last-again true late (Some early) le has =
+    rw (
+      figure_again (codes "tardiness") late (begins (codes "early") (decimal early)) (refl, (refl, (refl, (refl, (refl, (refl, (refl, (refl, (refl, tt))))))))) le,
+      number-again 4294967295 early (omega arith) has,
+    ) refl
+
+parts_again : (told : Bool) (e : Entry) → HasRow told e → row_of told (from_block e) ≡ Some e
 unfolding row_of
-parts_again e h =
+parts_again told e h =
     rw (
       name_again (codes "block") e.name (from_plate e) (refl, (refl, (refl, (refl, (refl, tt))))) h.name,
       name_again (codes "plate") e.plate (from_turn e) (refl, (refl, (refl, (refl, (refl, tt))))) h.plate,
@@ -218,11 +267,11 @@ parts_again e h =
       figure_again (codes "y") e.y (from_start e) (refl, tt) h.y,
       figure_again (codes "start") e.start (from_end e) (refl, (refl, (refl, (refl, (refl, tt))))) h.start,
       figure_again (codes "end") e.end (from_tardiness e) (refl, (refl, (refl, tt))) h.end,
-      number-again 4294967295 e.tardiness (omega arith) h.tardiness,
+      last-again told e.tardiness e.early h.tardiness h.early,
     ) refl
 
-pub row-again : (e : Entry) → HasRow e → row_of (row_text e) ≡ Some e
-row-again e h = ap row_of (by_words e) ∙ parts_again e h
+pub row-again : (told : Bool) (e : Entry) → HasRow told e → row_of told (row_text e) ≡ Some e
+row-again told e h = ap (row_of told) (by_words e) ∙ parts_again told e h
 
 -- ---- the total's line
 
@@ -263,8 +312,16 @@ figure_then word n rest w le r = spaced word (begins (decimal n) rest) (word_lin
 name_then : (word name rest : List ℕ) → is_within word ≡ true → is_name name ≡ true → Within 32 122 rest → Within 32 122 (begins word (begins name rest))
 name_then word name rest w is r = spaced word (begins name rest) (word_line word w) (spaced name rest (name_line name is) r)
 
-row_within : (e : Entry) → HasRow e → Within 32 122 (from_block e)
-row_within e h =
+last_within : (told : Bool) (late : ℕ) (early : Option ℕ) → late ≤ 4294967295 → HasEarly told early → Within 32 122 (join_with_byte 32 (ending late early))
+last_within false late None le has = spaced (codes "tardiness") (decimal late) (word_line (codes "tardiness") refl) (number_line late le)
+last_within false late (Some early) le has = absurd has
+last_within true late None le has = absurd has
+last_within true late (Some early) le has =
+    figure_then (codes "tardiness") late (begins (codes "early") (decimal early)) refl le
+    (spaced (codes "early") (decimal early) (word_line (codes "early") refl) (number_line early has))
+
+row_within : (told : Bool) (e : Entry) → HasRow told e → Within 32 122 (from_block e)
+row_within told e h =
     name_then (codes "block") e.name (from_plate e) refl h.name
     (name_then (codes "plate") e.plate (from_turn e) refl h.plate
     (figure_then (codes "turn") e.turn (from_x e) refl h.turn
@@ -272,10 +329,10 @@ row_within e h =
     (figure_then (codes "y") e.y (from_start e) refl h.y
     (figure_then (codes "start") e.start (from_end e) refl h.start
     (figure_then (codes "end") e.end (from_tardiness e) refl h.end
-    (spaced (codes "tardiness") (decimal e.tardiness) (word_line (codes "tardiness") refl) (number_line e.tardiness h.tardiness))))))))
+    (last_within told e.tardiness e.early h.tardiness h.early)))))))
 
-pub row_line : (e : Entry) → HasRow e → Lacks 10 (row_text e)
-row_line e h = subst (Lacks 10) (sym (by_words e)) (lacks_below 10 32 122 (from_block e) (omega arith) (row_within e h))
+pub row_line : (told : Bool) (e : Entry) → HasRow told e → Lacks 10 (row_text e)
+row_line told e h = subst (Lacks 10) (sym (by_words e)) (lacks_below 10 32 122 (from_block e) (omega arith) (row_within told e h))
 
 pub total_line : (n : ℕ) → n ≤ 4294967295 → Lacks 10 (begins (codes "total") (decimal n))
 total_line n le = lacks_below 10 32 122 (begins (codes "total") (decimal n)) (omega arith) (spaced (codes "total") (decimal n) (word_line (codes "total") refl) (number_line n le))

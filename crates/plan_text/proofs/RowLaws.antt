@@ -13,7 +13,7 @@ use Rattle.code_table.specs.declared.placement.Placement.{Placement}
 use Rattle.code_table.specs.Placements.{placements}
 use Rattle.plan_rule.specs.Plans.{code_of, total}
 use Rattle.plan_rule.specs.Yards.{choices}
-use Rattle.plan_text.specs.Texts.{block_line, row_at, row_text, rows_text, plan_text}
+use Rattle.plan_text.specs.Texts.{tells_early, head, block_line, row_at, row_text, rows_text, plan_text}
 
 -- what an index read
 pub read_at : {A : Type 0} (list xs : List A) (i : ℕ) (x : A) → list ≡ xs → i < length list → x ≡ get_or list i x → slice_get xs i ≡ Some x
@@ -23,11 +23,11 @@ read_at list xs i x e l is =
 -- the line of a block that has this placement on this plate
 pub row_is : (yard : PlainYard) (plan : List ℕ) (b : ℕ) (block : Block) (p : Placement) (plate : Plate) → slice_get yard.blocks b ≡ Some block
     → slice_get (placements yard b) (code_of plan b) ≡ Some p → slice_get yard.plates p.plate ≡ Some plate
-    → block_line block.name block.due plate.name p ≡ row_text yard plan b
+    → block_line (tells_early yard) block.name block.due plate.name p ≡ row_text yard plan b
 row_is yard plan b block p plate block_is p_is plate_is = sym (
     ap (λ o. row_at yard o (slice_get (placements yard b) (code_of plan b))) block_is
     ∙ ap (λ o. row_at yard (Some block) o) p_is
-    ∙ ap (λ o. block_line block.name block.due (option_map_or (λ (plate : Plate). plate.name) o []) p) plate_is)
+    ∙ ap (λ o. block_line (tells_early yard) block.name block.due (option_map_or (λ (plate : Plate). plate.name) o []) p) plate_is)
 
 -- one line more
 pub rows_more : (yard : PlainYard) (plan : List ℕ) (n : ℕ) (first now next : List ℕ) → now ≡ first ++ each n (row_text yard plan)
@@ -39,8 +39,8 @@ rows_more yard plan n first now next e f =
 
 -- the head, the lines of the blocks and the total
 pub whole_text : (yard : PlainYard) (plan out : List ℕ) (sum : ℕ) → sum ≡ total (choices yard) plan
-    → ((out ++ codes "plan 1\n") ++ rows_text yard plan) ++ (codes "total " ++ (decimal sum ++ codes "\n")) ≡ out ++ plan_text yard (Some plan)
+    → ((out ++ (head yard ++ codes "\n")) ++ rows_text yard plan) ++ (codes "total " ++ (decimal sum ++ codes "\n")) ≡ out ++ plan_text yard (Some plan)
 unfolding plan_text
 whole_text yard plan out sum e =
-    ap (λ n. ((out ++ codes "plan 1\n") ++ rows_text yard plan) ++ (codes "total " ++ (decimal n ++ codes "\n"))) e
+    ap (λ n. ((out ++ (head yard ++ codes "\n")) ++ rows_text yard plan) ++ (codes "total " ++ (decimal n ++ codes "\n"))) e
     ∙ simp append_assoc

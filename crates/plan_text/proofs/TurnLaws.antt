@@ -13,8 +13,9 @@ use Rattle.plan_rule.specs.Plans.{total}
 use Rattle.plan_rule.specs.Yards.{choices}
 use Rattle.plan_text.specs.declared.fault.PlanFault.{PlanFault}
 use Rattle.plan_text.specs.declared.fault.PlanFault.TheVariants as faults
+use Rattle.plan_text.specs.Texts.{head}
 use Rattle.plan_text.specs.Rows.{total_in}
-use Rattle.plan_text.specs.Reading.{◌>>=◌, or_fault, unless, line_code, rows_of, closed, total_of, planned, lines, plan_of, Fails}
+use Rattle.plan_text.specs.Reading.{◌>>=◌, or_fault, is_right, line_code, rows_of, closed, total_of, planned, lines, plan_of, Fails}
 
 -- codes, and the pieces after their lines
 abbrev pub Rows : Type 0
@@ -90,7 +91,7 @@ closed_after (b ∷ bs) some =
     ]
 
 pub total_turn : (n is : ℕ) (rest line more : List ℕ) → cut 10 rest ≡ Some (line, more)
-    → total_of n is (lines rest) ≡ (or_fault (total_in line) (faults.Line n) >>= λ told. unless (eqb told is) (faults.Figure n told is) (closed (lines more)))
+    → total_of n is (lines rest) ≡ (or_fault (total_in line) (faults.Line n) >>= λ told. is_right n told is >>= λ right. closed (lines more))
 unfolding total_of
 total_turn n is rest line more e =
     let parts = cut-takes 10 rest (line, more) e in
@@ -105,7 +106,7 @@ total_missing n is rest e = rw (split-whole 10 rest e) refl
 
 pub head_turn : (yard : PlainYard) (bytes first rest : List ℕ) → cut 10 bytes ≡ Some (first, rest)
     → plan_of yard bytes ≡ cond (bytes_eq first (codes "no plan")) (closed (lines rest) >>= λ last. Ok None)
-    (cond (bytes_eq first (codes "plan 1")) (planned yard (lines rest) >>= λ plan. Ok (Some plan)) (Err (faults.Line 1)))
+    (cond (bytes_eq first (head yard)) (planned yard (lines rest) >>= λ plan. Ok (Some plan)) (Err (faults.Line 1)))
 unfolding plan_of
 head_turn yard bytes first rest e =
     let parts = cut-takes 10 bytes (first, rest) e in

@@ -1,15 +1,15 @@
 -- What is read as a plan, or as none, is spelled so, and what is spelled so is read.
-use Rattle.std.proofs.Common.{◌≡◌, ℕ, zero, suc, ◌+◌, ◌<◌, ◌≤◌, eqb, List, [], ◌∷◌, ◌++◌, length, Option, Some, None, Result, Ok, Err, refl, sym, ap, subst, ◌∙◌, inl, inr, append_assoc, arith}
+use Rattle.std.proofs.Common.{◌≡◌, ℕ, zero, suc, ◌+◌, ◌<◌, ◌≤◌, Bool, true, false, cond, List, [], ◌∷◌, ◌++◌, length, Option, Some, None, Result, Ok, Err, refl, sym, ap, subst, ◌∙◌, inl, inr, append_assoc, arith}
 use Rattle.std.specs.Prelude.{slice_get, codes, IfOk, IfSome}
 use Rattle.std.specs.Fmt.{decimal}
 use Rattle.std.specs.Str.{bytes_eq}
 use Rattle.std.specs.List.{flat_map, range_with_len, join_with_byte}
-use Rattle.std.proofs.lemmas.Bool.{cases_Bool, eqb-true, eq-eqb}
+use Rattle.std.proofs.lemmas.Bool.{cases_Bool, eq-eqb}
 use Rattle.std.proofs.lemmas.Option.{slice_get_within}
 use Rattle.std.proofs.lemmas.Slice.Eq.{bytes_eq-Decides}
 use Rattle.std.proofs.lemmas.List.Splits.{join_with_byte-slice_split}
 use Rattle.text_parts.specs.Parts.{cut}
-use Rattle.text_parts.proofs.CutLaws.{cut-again}
+use Rattle.text_parts.proofs.CutLaws.{Lacks, cut-again}
 use Rattle.shape_exact.specs.Yards.{PlainYard, IsYard, IsBlock}
 use Rattle.shape_exact.specs.declared.block.Block.{Block}
 use Rattle.code_table.specs.Placements.{placements, placements_of}
@@ -20,12 +20,12 @@ use Rattle.plan_rule.specs.Yards.{choices}
 use Rattle.plan_rule.proofs.CountLaws.{blocks-length, count-length}
 use Rattle.plan_rule.proofs.LimitLaws.{total-below}
 use Rattle.plan_text.specs.declared.fault.PlanFault.{PlanFault}
-use Rattle.plan_text.specs.declared.fault.PlanFault.TheVariants.{Line, Figure}
-use Rattle.plan_text.specs.Texts.{line, row_at, row_text as row_of_plan, rows_text, plan_text}
+use Rattle.plan_text.specs.declared.fault.PlanFault.TheVariants.{Line}
+use Rattle.plan_text.specs.Texts.{line, tells_early, head, row_at, row_text as row_of_plan, rows_text, plan_text}
 use Rattle.plan_text.specs.Rows.{total_in}
-use Rattle.plan_text.specs.Reading.{◌>>=◌, or_fault, unless, line_code, rows_of, closed, total_of, planned, headed, lines, plan_of, Gives}
+use Rattle.plan_text.specs.Reading.{◌>>=◌, or_fault, is_right, line_code, rows_of, closed, total_of, planned, headed, lines, plan_of, Gives}
 use Rattle.plan_text.proofs.FormLaws.{begins, row_text, row_line, total-takes, total-again, total_line}
-use Rattle.plan_text.proofs.LineLaws.{then_ok, found_ok, test_ok, tells, row_is_line, line-takes, line-again, line_fits}
+use Rattle.plan_text.proofs.LineLaws.{then_ok, found_ok, right_is, tells, row_is_line, line-takes, line-again, line_fits}
 use Rattle.plan_text.proofs.TurnLaws.{Rows, row_turn, total_turn, head_turn}
 
 -- ---- the lines of the blocks
@@ -94,7 +94,7 @@ rows-again yard (b ∷ bs) (c ∷ cs) n rest limits fit have =
     let text : (row_at yard (Some b) (slice_get (placements_of yard b) c) ++ rows_at yard bs cs) ++ rest ≡ first ++ 10 ∷ others =
     ap (λ o. (row_at yard (Some b) o ++ rows_at yard bs cs) ++ rest) there ∙ ap (λ (t : List ℕ). (t ++ rows_at yard bs cs) ++ rest) (row_is_line yard b p)
     ∙ append_assoc (first ++ 10 ∷ []) (rows_at yard bs cs) rest ∙ append_assoc first (10 ∷ []) others in
-    let cuts = ap (cut 10) text ∙ cut-again 10 first others (row_line (tells yard b p) (line_fits yard b c p limits (fit 0 b refl) there)) in
+    let cuts = ap (cut 10) text ∙ cut-again 10 first others (row_line (tells_early yard) (tells yard b p) (line_fits yard b c p limits (fit 0 b refl) there)) in
     row_turn yard b bs n ((row_at yard (Some b) (slice_get (placements_of yard b) c) ++ rows_at yard bs cs) ++ rest) first others cuts
     ∙ rw (line-again yard b n c p limits (fit 0 b refl) there, rows-again yard bs cs (n + 1) rest limits (λ j d at. fit (suc j) d at) have.1) refl
 
@@ -216,11 +216,11 @@ unfolding total_of
 last-takes n is [] u e = absurd cc
 last-takes n is (p ∷ []) u e = absurd cc
 last-takes n is (text ∷ next ∷ more) u e =
-    then_ok (or_fault (total_in text) (Line n)) (λ told. unless (eqb told is) (Figure n told is) (closed (next ∷ more))) u e (λ told h m.
-    let (same, last) = test_ok (eqb told is) (Figure n told is) (closed (next ∷ more)) u m in
+    then_ok (or_fault (total_in text) (Line n)) (λ told. is_right n told is >>= λ right. closed (next ∷ more)) u e (λ told h m.
+    then_ok (is_right n told is) (λ right. closed (next ∷ more)) u m (λ v right last.
     let spelled = total-takes text told (found_ok (total_in text) (Line n) told h) in
     ap (λ (ps : List (List ℕ)). join_with_byte 10 (text ∷ ps)) (closed_ok (next ∷ more) u last)
-    ∙ ap (λ (t : List ℕ). t ++ 10 ∷ []) spelled ∙ ap of_total (eqb-true told is same))
+    ∙ ap (λ (t : List ℕ). t ++ 10 ∷ []) spelled ∙ ap of_total (right_is n told is v right)))
 
 last-again : (n is : ℕ) → is ≤ 4294967295 → total_of n is (lines (of_total is)) ≡ Ok tt
 last-again n is le =
@@ -272,11 +272,22 @@ answer_is s t e = cc
 abbrev IsText : PlainYard → Option (List ℕ) → List ℕ → Type 0
 IsText yard t bytes = IfSome t (IsPlan (choices yard)) × (bytes ≡ plan_text yard t)
 
-plan_is_text : (yard : PlainYard) (plan : List ℕ) → AreCodes yard yard.blocks plan → codes "plan 1\n" ++ body yard plan ≡ plan_text yard (Some plan)
+plan_is_text : (yard : PlainYard) (plan : List ℕ) → AreCodes yard yard.blocks plan → head yard ++ 10 ∷ body yard plan ≡ plan_text yard (Some plan)
 unfolding plan_text
 plan_is_text yard plan have =
-    sym (append_assoc (codes "plan 1\n") (rows_at yard yard.blocks plan) (of_total (total (choices yard) plan)))
-    ∙ ap (λ (t : List ℕ). (codes "plan 1\n" ++ t) ++ of_total (total (choices yard) plan)) (sym (rows_same yard plan have))
+    let first : List ℕ = head yard ++ 10 ∷ [] in
+    sym (append_assoc (head yard) (10 ∷ []) (body yard plan))
+    ∙ sym (append_assoc first (rows_at yard yard.blocks plan) (of_total (total (choices yard) plan)))
+    ∙ ap (λ (t : List ℕ). (first ++ t) ++ of_total (total (choices yard) plan)) (sym (rows_same yard plan have))
+
+-- the head has no line feed, and is not the line of no plan
+kind_lacks : (told : Bool) → Lacks 10 (cond told (codes "plan 2") (codes "plan 1"))
+kind_lacks true = (refl, (refl, (refl, (refl, (refl, (refl, tt))))))
+kind_lacks false = (refl, (refl, (refl, (refl, (refl, (refl, tt))))))
+
+kind_other : (told : Bool) → bytes_eq (cond told (codes "plan 2") (codes "plan 1")) (codes "no plan") ≡ false
+kind_other true = refl
+kind_other false = refl
 
 headed-takes : (yard : PlainYard) (ps : List (List ℕ)) (t : Option (List ℕ)) → headed yard ps ≡ Ok t → IsText yard t (join_with_byte 10 ps)
 unfolding plan_text
@@ -289,13 +300,13 @@ headed-takes yard (first ∷ next ∷ more) t e =
           then_ok (closed (next ∷ more)) (λ last. answer None) t (rw none at e) (λ u last m.
           subst (λ (s : Option (List ℕ)). IsText yard s (join_with_byte 10 (first ∷ next ∷ more))) (answer_is None t m)
           (tt, ap (λ (ps : List (List ℕ)). join_with_byte 10 (first ∷ ps)) (closed_ok (next ∷ more) u last) ∙ ap (λ (s : List ℕ). s ++ 10 ∷ []) is))
-      | inr some ↦ elim (cases_Bool (bytes_eq first (codes "plan 1"))) [
-        | inl head ↦
-            let is = (bytes_eq-Decides first (codes "plan 1")).0 head in
-            then_ok (planned yard (next ∷ more)) (λ plan. answer (Some plan)) t (rw (some, head) at e) (λ plan found m.
+      | inr some ↦ elim (cases_Bool (bytes_eq first (head yard))) [
+        | inl same ↦
+            let is = (bytes_eq-Decides first (head yard)).0 same in
+            then_ok (planned yard (next ∷ more)) (λ plan. answer (Some plan)) t (rw (some, same) at e) (λ plan found m.
             let (have, text) = planned-takes yard (next ∷ more) plan found in
             subst (λ (s : Option (List ℕ)). IsText yard s (join_with_byte 10 (first ∷ next ∷ more))) (answer_is (Some plan) t m)
-            (plan_from yard plan have, ap (λ (s : List ℕ). s ++ 10 ∷ join_with_byte 10 (next ∷ more)) is ∙ ap (λ (s : List ℕ). codes "plan 1\n" ++ s) text ∙ plan_is_text yard plan have))
+            (plan_from yard plan have, ap (λ (s : List ℕ). s ++ 10 ∷ join_with_byte 10 (next ∷ more)) is ∙ ap (λ (s : List ℕ). head yard ++ 10 ∷ s) text ∙ plan_is_text yard plan have))
         | inr other ↦ let bad : Err (Line 1) ≡ answer t = rw (some, other) at e in absurd cc
       ]
     ]
@@ -310,8 +321,11 @@ pub plan-again : (yard : PlainYard) (t : Option (List ℕ)) → IsYard yard → 
 unfolding plan_text
 plan-again yard None limits is = head_turn yard (codes "no plan\n") (codes "no plan") [] refl
 plan-again yard (Some plan) limits is =
+    let cuts = cut-again 10 (head yard) (body yard plan) (kind_lacks (tells_early yard)) in
+    let same = (bytes_eq-Decides (head yard) (head yard)).1 refl in
     ap (plan_of yard) (sym (plan_is_text yard plan (plan_codes yard plan is)))
-    ∙ head_turn yard (codes "plan 1\n" ++ body yard plan) (codes "plan 1") (body yard plan) refl
+    ∙ head_turn yard (head yard ++ 10 ∷ body yard plan) (head yard) (body yard plan) cuts
+    ∙ rw (kind_other (tells_early yard), same) refl
     ∙ ap (λ r. r >>= λ plan. answer (Some plan)) (planned-again yard plan limits is)
 
 -- what is found

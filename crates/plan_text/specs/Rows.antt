@@ -1,5 +1,5 @@
 -- The form of a block's line and of the total's, and what they tell.
-use Rattle.std.specs.Prelude.{ℕ, if◌then◌else◌, List, codes, Option, Some, None}
+use Rattle.std.specs.Prelude.{ℕ, Bool, true, false, if◌then◌else◌, List, codes, Option, Some, None}
 use Rattle.std.specs.Str.{bytes_eq}
 use Rattle.text_parts.specs.Parts.{◌>>=◌, cut, field, number_of}
 use Rattle.shape_exact.specs.Names.{is_name}
@@ -15,6 +15,8 @@ pub record Entry : Type 0 where
   pub start : ℕ
   pub end : ℕ
   pub tardiness : ℕ
+  -- the early days, where the line tells them
+  pub early : Option ℕ
 
 -- the same of a row that borrows its names
 abbrev pub entry : Row → Entry
@@ -27,6 +29,7 @@ entry r = record {
   start = r.start;
   end = r.end;
   tardiness = r.tardiness;
+  early = r.early;
 }
 
 -- a word that is a name
@@ -45,9 +48,21 @@ after_word word text = cut 32 text >>= λ p. if bytes_eq p.0 word then Some p.1 
 abbrev pub part_after : {X : Type 0} → (List ℕ → Option X) → List ℕ → List ℕ → Option (X × List ℕ)
 part_after read word text = after_word word text >>= field read 32
 
--- what the line of a block tells, without its line feed
-unfoldable pub row_of : List ℕ → Option Entry
-row_of line = do
+-- the figures with which a block's line ends: the tardiness and, where they are to be told, the early days
+abbrev pub last_figures : Bool → List ℕ → Option (ℕ × Option ℕ)
+last_figures false text = do
+  rest ← after_word (codes "tardiness") text
+  tardiness ← figure_of rest
+  Some (tardiness, None)
+last_figures true text = do
+  tardiness ← part_after figure_of (codes "tardiness") text
+  rest ← after_word (codes "early") tardiness.1
+  early ← figure_of rest
+  Some (tardiness.0, Some early)
+
+-- what the line of a block tells, without its line feed, with or without early days
+unfoldable pub row_of : Bool → List ℕ → Option Entry
+row_of with_early line = do
   name ← part_after name_of (codes "block") line
   plate ← part_after name_of (codes "plate") name.1
   turn ← part_after figure_of (codes "turn") plate.1
@@ -55,8 +70,7 @@ row_of line = do
   y ← part_after figure_of (codes "y") x.1
   start ← part_after figure_of (codes "start") y.1
   end ← part_after figure_of (codes "end") start.1
-  rest ← after_word (codes "tardiness") end.1
-  tardiness ← figure_of rest
+  late ← last_figures with_early end.1
   Some (record {
     name = name.0;
     plate = plate.0;
@@ -65,7 +79,8 @@ row_of line = do
     y = y.0;
     start = start.0;
     end = end.0;
-    tardiness = tardiness;
+    tardiness = late.0;
+    early = late.1;
   })
 
 -- the total that its line tells

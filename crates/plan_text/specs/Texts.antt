@@ -1,6 +1,6 @@
 -- The text of a plan.
-use Rattle.std.specs.Prelude.{ℕ, ◌-◌, List, [], ◌∷◌, ◌++◌, length, Option, Some, None, slice_get, codes}
-use Rattle.std.specs.List.{join_with_byte}
+use Rattle.std.specs.Prelude.{ℕ, ◌-◌, Bool, nat_lt, if◌then◌else◌, List, [], ◌∷◌, ◌++◌, length, Option, Some, None, slice_get, codes}
+use Rattle.std.specs.List.{join_with_byte, list_any}
 use Rattle.std.specs.Option.{option_map_or}
 use Rattle.std.specs.Fmt.{decimal}
 use Rattle.shape_exact.specs.Yards.{PlainYard}
@@ -19,18 +19,32 @@ line words = join_with_byte 32 words ++ 10 ∷ []
 abbrev pub plate_name : PlainYard → ℕ → List ℕ
 plate_name yard p = option_map_or (λ plate. plate.name) (slice_get yard.plates p) []
 
--- the line of a block that stands at a placement on a plate of this name
-unfoldable pub block_line : List ℕ → ℕ → List ℕ → Placement → List ℕ
-block_line name due plate p = line (
+-- whether the yard's plan texts tell early days: where a block of it has a cost for them
+unfoldable pub tells_early : PlainYard → Bool
+tells_early yard = list_any (λ (b : Block). nat_lt 0 b.early) yard.blocks
+
+-- the first line of the yard's plan texts
+abbrev pub head : PlainYard → List ℕ
+head yard = if tells_early yard then codes "plan 2" else codes "plan 1"
+
+-- the words with which a block's line ends: on its tardiness and, where they are told, on its early days
+abbrev pub last_words : Bool → ℕ → ℕ → List (List ℕ)
+last_words with_early due end =
+    codes "tardiness" ∷ decimal (end - due)
+    ∷ (if with_early then codes "early" ∷ decimal (due - end) ∷ [] else [])
+
+-- the line of a block that stands at a placement on a plate of this name, with or without its early days
+unfoldable pub block_line : Bool → List ℕ → ℕ → List ℕ → Placement → List ℕ
+block_line with_early name due plate p = line (
     codes "block" ∷ name ∷ codes "plate" ∷ plate ∷ codes "turn" ∷ decimal p.turn
     ∷ codes "x" ∷ decimal p.x ∷ codes "y" ∷ decimal p.y ∷ codes "start" ∷ decimal p.start
-    ∷ codes "end" ∷ decimal p.end ∷ codes "tardiness" ∷ decimal (p.end - due) ∷ [])
+    ∷ codes "end" ∷ decimal p.end ∷ last_words with_early due p.end)
 
 -- the line of a block at a placement, where there are both
 abbrev pub row_at : PlainYard → Option Block → Option Placement → List ℕ
 row_at yard None p = []
 row_at yard (Some block) None = []
-row_at yard (Some block) (Some p) = block_line block.name block.due (plate_name yard p.plate) p
+row_at yard (Some block) (Some p) = block_line (tells_early yard) block.name block.due (plate_name yard p.plate) p
 
 -- the line of a block at its code in the plan
 abbrev pub row_text : PlainYard → List ℕ → ℕ → List ℕ
@@ -44,5 +58,5 @@ rows_text yard plan = each (length yard.blocks) (row_text yard plan)
 unfoldable pub plan_text : PlainYard → Option (List ℕ) → List ℕ
 plan_text yard None = line (codes "no" ∷ codes "plan" ∷ [])
 plan_text yard (Some plan) =
-    line (codes "plan" ∷ codes "1" ∷ []) ++ rows_text yard plan
+    line (head yard ∷ []) ++ rows_text yard plan
     ++ line (codes "total" ∷ decimal (total (choices yard) plan) ∷ [])

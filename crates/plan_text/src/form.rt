@@ -16,6 +16,7 @@ pub(crate) struct Row<'a> {
     pub(crate) start: u32,
     pub(crate) end: u32,
     pub(crate) tardiness: u32,
+    pub(crate) early: Option<u32>,
 }
 
 /// What follows the word and a space.
@@ -68,10 +69,24 @@ fn figure_after<'a>(word: &[u8], text: &'a [u8]) -> Option<(u32, &'a [u8])>
     Some((number, rest))
 }
 
-/// What the line of a block tells, without its line feed; None exactly where it has not the form of one.
+/// The figures with which a block's line ends: the tardiness and, where they are to be told, the early days.
+fn last_figures(with_early: bool, text: &[u8]) -> Option<(u32, Option<u32>)>
+    ensures { result ≡ spec.last_figures with_early text.now }
+{
+    if !with_early {
+        let tardiness = figure_of(after_word(b"tardiness", text)?)?;
+        return Some((tardiness, None));
+    }
+    let (tardiness, rest) = figure_after(b"tardiness", text)?;
+    let early = figure_of(after_word(b"early", rest)?)?;
+    Some((tardiness, Some(early)))
+}
+
+/// What the line of a block tells, without its line feed, with or without early days; None exactly where it has not the
+/// form of one.
 #[tactic(auto, unfolding(crate::specs::Rows::row_of))]
-pub(crate) fn row_of(line: &[u8]) -> Option<Row<'_>>
-    ensures { option_map spec.entry result ≡ spec.row_of line.now }
+pub(crate) fn row_of(with_early: bool, line: &[u8]) -> Option<Row<'_>>
+    ensures { option_map spec.entry result ≡ spec.row_of with_early line.now }
 {
     let (name, rest) = name_after(b"block", line)?;
     let (plate, rest) = name_after(b"plate", rest)?;
@@ -80,7 +95,7 @@ pub(crate) fn row_of(line: &[u8]) -> Option<Row<'_>>
     let (y, rest) = figure_after(b"y", rest)?;
     let (start, rest) = figure_after(b"start", rest)?;
     let (end, rest) = figure_after(b"end", rest)?;
-    let tardiness = figure_of(after_word(b"tardiness", rest)?)?;
+    let (tardiness, early) = last_figures(with_early, rest)?;
     Some(Row {
         name,
         plate,
@@ -90,6 +105,7 @@ pub(crate) fn row_of(line: &[u8]) -> Option<Row<'_>>
         start,
         end,
         tardiness,
+        early,
     })
 }
 

@@ -7,6 +7,7 @@ ghost use Rattle.plan_rule.specs.Plans.{IsPlan};
 ghost use Rattle.plan_rule.specs.Yards.{choices};
 ghost use Rattle.plan_text.specs.Texts.{plan_text, rows_text, row_text};
 
+use crate::heads::{head, tells_early};
 use crate::rows::put_row;
 use code_table::Codes;
 use plan_rule::{Plan, block_count, total};
@@ -23,7 +24,7 @@ fn put_block(out: &mut String, codes: &Codes, plan: &Plan, block: u8) -> Result<
     let place = codes.place(block, plan.codes()[block as usize]);
     let of = &yard.blocks()[block as usize];
     let plate = &yard.plates()[place.plate as usize];
-    put_row(out, &of.name, of.due, &plate.name, place)
+    put_row(out, tells_early(yard), &of.name, of.due, &plate.name, place)
 }
 
 /// Writes the lines of the blocks, in file order.
@@ -43,7 +44,8 @@ fn put_plan(out: &mut String, codes: &Codes, plan: &Plan) -> Result<(), AllocErr
     requires { IsPlan (choices codes.now) plan.now }
     ensures { OnOk result (string_bytes out.new ≡ string_bytes out.old ++ plan_text codes.now (Some plan.now)) }
 {
-    out.push_str("plan 1\n")?;
+    let head = head(codes.yard());
+    write!(out, "{head}\n")?;
     put_rows(out, codes, plan)?;
     let total = total(codes, plan);
     write!(out, "total {total}\n")

@@ -6,7 +6,9 @@ ghost use Rattle.plan_text.specs.Texts.{plan_text};
 ghost use Rattle.plan_text.specs.Reading as spec;
 
 use crate::fault::PlanFault;
+use crate::figures::check_figure;
 use crate::form::total_in;
+use crate::heads::head;
 use crate::told::code_of_line;
 use code_table::Codes;
 use plan_rule::{Plan, block_count, total};
@@ -48,9 +50,7 @@ fn close(number: u64, is: u32, bytes: &[u8]) -> Result<(), PlanFault>
     let Some(told) = total_in(line) else {
         return Err(PlanFault::Line(number));
     };
-    if told != is {
-        return Err(PlanFault::Figure(number, told, is));
-    }
+    check_figure(number, told, is)?;
     if !rest.is_empty() {
         return Err(PlanFault::Rest);
     }
@@ -81,7 +81,7 @@ fn plan_of(alloc: Global, codes: &Codes, bytes: &[u8]) -> Result<Option<Plan>, P
             Err(PlanFault::Rest)
         };
     }
-    if first != b"plan 1".as_slice() {
+    if first != head(codes.yard()).as_bytes() {
         return Err(PlanFault::Line(1));
     }
     let plan = planned(alloc, codes, rest)?;

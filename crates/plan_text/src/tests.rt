@@ -1,6 +1,8 @@
 //! Texts of a yard of one block, written by hand.
 ghost use Rattle.shape_exact.specs.Yards.{IsPlate, IsBlock};
 
+mod early;
+
 use crate::{PlanFault, print_plan, read_plan};
 use code_table::{Codes, placement_count};
 use shape_exact::{Block, DayList, Name, Plate, Point, Shape, Yard};
@@ -59,6 +61,7 @@ fn block(rt: &impl Abort) -> Block
         release: 0,
         due: 1,
         weight: 1,
+        early: 0,
     }
 }
 

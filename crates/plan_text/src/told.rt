@@ -7,7 +7,9 @@ ghost use Rattle.plan_text.specs.Told as told;
 ghost use Rattle.plan_text.specs.Reading.{line_code};
 
 use crate::fault::PlanFault;
+use crate::figures::check_figures;
 use crate::form::{Row, row_of};
+use crate::heads::tells_early;
 use code_table::{Codes, Placement};
 use shape_exact::{Block, Plate};
 
@@ -72,7 +74,7 @@ pub(crate) fn code_of_line(
     requires limits { IsYard codes.now }
     ensures { result ≡ line_code codes.now of.now number line.now }
 {
-    let Some(row) = row_of(line) else {
+    let Some(row) = row_of(tells_early(codes.yard()), line) else {
         return Err(PlanFault::Line(number));
     };
     if row.name != of.name.bytes() {
@@ -84,13 +86,6 @@ pub(crate) fn code_of_line(
     let Some((code, end)) = told_at(codes, block, of, plate, &row) else {
         return Err(PlanFault::NotAPlacement(number));
     };
-    let end = u32::from(end);
-    if row.end != end {
-        return Err(PlanFault::Figure(number, row.end, end));
-    }
-    let late = end.saturating_sub(u32::from(of.due));
-    if row.tardiness != late {
-        return Err(PlanFault::Figure(number, row.tardiness, late));
-    }
+    check_figures(number, &row, u32::from(of.due), u32::from(end))?;
     Ok(code)
 }

@@ -9,9 +9,9 @@ use Rattle.std.proofs.lemmas.List.{get_or-take, length-take-le}
 use Rattle.plan_rule.specs.declared.literal.Literal.{Literal}
 use Rattle.plan_rule.specs.Choices.{Choices, blocks, count}
 use Rattle.plan_rule.specs.Plans.{code_of, IsPlan, IsFeasible, total, IsBefore, IsBest, IsAnswer, IsNotBefore}
-use Rattle.plan_rule.specs.Boxes.{IsBox, IsLiteral, Holds, LeavesFree, Fixes, Covers, exact, with_literal}
+use Rattle.plan_rule.specs.Boxes.{IsBox, IsLiteral, Holds, LeavesFree, HasExact, Covers, exact, with_literal}
 use Rattle.plan_rule.specs.Bounds.{IsBase, IsFit, Refutes, IsAtMost}
-use Rattle.plan_rule.proofs.BoundLaws.{fixed-all, base-at_most, fit-at_most, refuted, held_code, held_block}
+use Rattle.plan_rule.proofs.BoundLaws.{exact-all, base-at_most, fit-at_most, refuted, held_code, held_block}
 use Rattle.plan_rule.proofs.EnergyLaws.{IsPacked, energy-at_most}
 use Rattle.plan_rule.proofs.BoxLaws.{HoldsCode, held_with, held_without, held_covered}
 use Rattle.shape_exact.specs.Yards.{PlainYard, IsYard}
@@ -73,18 +73,21 @@ step_shows c t earlier (Branch b lo hi side cites) en a before s q p h =
     elim (s.covered (code_of q b) range.0 range.1) [
       | inl clash ↦
           let (x, d, fixes, clashes) = clash in
-          let other : x ≢ b = fixed-all (λ l. l.block ≢ b) side x d s.free fixes in
+          let other : x ≢ b = exact-all (λ l. l.block ≢ b) side x d s.free fixes in
           absurd (p.clear x b (held_block c side x d s.side_is fixes) s.block other
           (subst (λ d. c.Clash x d b (code_of q b)) (sym (held_code side q x d held fixes)) clashes))
-      | inr more ↦ elim more [
-        | inl bound ↦
-            let (k, is, ref) = bound in
-            refuted c t (with_literal side (exact b (code_of q b))) q k a p.is_plan inside
-            (base-at_most c (with_literal side (exact b (code_of q b))) q k p.is_plan inside is) ref
-        | inr cited ↦
-            let (k, e, cites, at, cover) = cited in
-            let (shows, exist) = before k e at in
-            shows q p (held_covered c (result_of c e) (with_literal side (exact b (code_of q b))) q exist p.is_plan cover inside)
+      | inr others ↦ elim others [
+        | inl meets ↦ absurd (p.unmet b s.block meets)
+        | inr more ↦ elim more [
+          | inl bound ↦
+              let (k, is, ref) = bound in
+              refuted c t (with_literal side (exact b (code_of q b))) q k a p.is_plan inside
+              (base-at_most c (with_literal side (exact b (code_of q b))) q k p.is_plan inside is) ref
+          | inr cited ↦
+              let (k, e, cites, at, cover) = cited in
+              let (shows, exist) = before k e at in
+              shows q p (held_covered c (result_of c e) (with_literal side (exact b (code_of q b))) q exist p.is_plan cover inside)
+        ]
       ]
     ]
 step_shows c t earlier (Fit side) en a before (w, (k, is, ref)) q p h =

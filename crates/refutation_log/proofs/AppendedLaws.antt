@@ -92,7 +92,16 @@ step_after c t log earlier (Branch b lo hi side cites) s = record {
   earlier_only = subst (λ n. All (λ k. k < n) (map (λ k. k + length log) cites))
       (ap (λ n. length log + n) (sym (map_length (raised (length log)) earlier)) ∙ sym (length-append log (map (raised (length log)) earlier)))
       (all_raised (length log) (length earlier) cites s.earlier_only);
-  covered = λ code a e. elim (s.covered code a e) [ inl clash ↦ inl clash | inr more ↦ elim more [ inl bound ↦ inr (inl bound) | inr cited ↦ inr (inr (cited_after c log earlier cites (with_literal side (exact b code)) cited)) ] ];
+  covered = λ code a e. elim (s.covered code a e) [
+    | inl clash ↦ inl clash
+    | inr others ↦ elim others [
+      | inl meets ↦ inr (inl meets)
+      | inr more ↦ elim more [
+        | inl bound ↦ inr (inr (inl bound))
+        | inr cited ↦ inr (inr (inr (cited_after c log earlier cites (with_literal side (exact b code)) cited)))
+      ]
+    ]
+  ];
 }
 step_after c t log earlier (Fit side) s = s
 step_after c t log earlier (Energy from to side) s = s

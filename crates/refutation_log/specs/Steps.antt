@@ -1,9 +1,9 @@
 -- Which records are steps, what they show, and which logs are accepted.
 use Rattle.std.specs.Prelude.{◌≡◌, ℕ, ◌+◌, ◌<◌, ◌≤◌, List, [], Option, Some, None, ◌⊎◌, length, slice_get, take, All, Contains, if◌then◌else◌, ◌==◌, ◌&&◌}
 use Rattle.plan_rule.specs.declared.literal.Literal.{Literal}
-use Rattle.plan_rule.specs.Choices.{Choices, blocks, count}
+use Rattle.plan_rule.specs.Choices.{Choices, MeetsSome, blocks, count}
 use Rattle.plan_rule.specs.Plans.{IsAnswer}
-use Rattle.plan_rule.specs.Boxes.{IsBox, LeavesFree, Fixes, Covers, exact, with_literal}
+use Rattle.plan_rule.specs.Boxes.{IsBox, LeavesFree, HasExact, Covers, exact, with_literal}
 use Rattle.plan_rule.specs.Bounds.{IsBase, IsFit, IsEnergy, Refutes}
 use Rattle.refutation_log.specs.declared.record.Record.{Record}
 use Rattle.refutation_log.specs.declared.record.Record.TheVariants.{Branch, Fit, Energy}
@@ -20,10 +20,11 @@ abbrev pub IsCited : Choices → List Record → List ℕ → List Literal → T
 IsCited c earlier cites box =
     (k : ℕ) × (r : Record) × Contains cites k × (slice_get earlier k ≡ Some r) × Covers c (result_of c r) box
 
--- the code clashes with a code that the side fixes; or the base refutes the side with this code; or a citation covers it
+-- the code clashes with a code that the side fixes; or it meets a fixed piece; or the base refutes the side with this code; or a citation covers it
 abbrev pub IsCovered : Choices → Option (List ℕ) → List Record → List Literal → List ℕ → ℕ → ℕ → Type 0
 IsCovered c t earlier side cites b code =
-    ((a : ℕ) × (d : ℕ) × Fixes side a d × c.Clash a d b code)
+    ((a : ℕ) × (d : ℕ) × HasExact side a d × c.Clash a d b code)
+    ⊎ MeetsSome c b code
     ⊎ ((k : Option ℕ) × IsBase c (with_literal side (exact b code)) k × Refutes c t (with_literal side (exact b code)) k)
     ⊎ IsCited c earlier cites (with_literal side (exact b code))
 

@@ -1,6 +1,12 @@
 //! Logs whose texts are written by hand.
+ghost use Rattle.std.specs.Prelude.{◌≡◌, IfOk, length};
+ghost use Rattle.refutation_log.specs.Logs.{CiteEarlier};
+ghost use Rattle.refutation_log.specs.Spelling.{HaveText};
 
-use crate::{Capsule, Log, LogFault, read_log, write_log};
+use crate::{Capsule, Cites, Log, LogFault, Record, read_log, write_log};
+use plan_rule::{Literal, PlanBox};
+use shape_exact::NoMemory;
+use std::alloc::Global;
 use std::test::Fail;
 
 const FIVE: &[u8] =
@@ -45,10 +51,54 @@ fn every_part_of_a_text_lacks_its_head_or_its_end(rt: HostRuntime) {
     }
 }
 
+/// A fit of the side `0:3`, and a branch that cites it.
+fn fit_and_branch(alloc: Global) -> Result<Log, NoMemory>
+    ensures text { IfOk result (λ log. HaveText log) }
+    ensures cites { IfOk result (λ log. CiteEarlier log) }
+    ensures count { IfOk result (λ log. length log ≡ 2) }
+{
+    let mut log = Log::new(alloc);
+    log.push(Record::Fit {
+        side: PlanBox::new(alloc, &[Literal::exact(0, 3)])?,
+    })?;
+    log.push(Record::Branch {
+        block: 0,
+        lo: 3,
+        hi: 4,
+        side: PlanBox::new(alloc, &[])?,
+        cites: Cites::new(alloc, &[0])?,
+    })?;
+    Ok(log)
+}
+
 #[test]
-fn a_log_is_read_appended_and_lined(rt: HostRuntime) -> Result<(), Fail> {
-    let log = read_log(rt.alloc(), FIVE)?;
+fn a_log_is_read_appended_and_written(rt: HostRuntime) -> Result<(), Fail> {
+    let mut log = read_log(rt.alloc(), FIVE)?;
     assert_eq!(rt; log.records().len(), 5);
+    assert_eq!(rt; write_log(rt.alloc(), &log)?.as_slice(), FIVE);
+    let other = fit_and_branch(rt.alloc())?;
+    assert_eq!(rt;
+        write_log(rt.alloc(), &other)?.as_slice(),
+        b"log 1\nfit 0:3\nbranch 0 3 4 - 0\nend\n".as_slice()
+    );
+    assert_eq!(rt; log.append(rt.alloc(), &other)?, 5);
+    assert_eq!(rt; log.records().len(), 7);
+    match &log.records()[6] {
+        Record::Branch { cites, .. } => assert_eq!(rt; cites.list(), [5].as_slice()),
+        _ => assert!(rt; false, "the branch came last"),
+    }
+    match Capsule::new(9, other) {
+        Ok(capsule) => {
+            assert_eq!(rt; capsule.bar(), 9);
+            assert_eq!(rt; capsule.log().records().len(), 2);
+        }
+        Err(_) => assert!(rt; false, "a small log is refused"),
+    }
+    Ok(())
+}
+
+#[test]
+fn a_log_of_no_record_is_handed_back_and_a_fault_has_a_line(rt: HostRuntime) -> Result<(), Fail> {
     match Capsule::new(7, Log::new(rt.alloc())) {
         Ok(_) => assert!(rt; false, "a capsule of no record"),
         Err(empty) => assert_eq!(rt; empty.records().len(), 0),

@@ -1,120 +1,144 @@
 -- A yard that the reader accepts can be planned: it has a plate and a block, and no block has too many placements.
-use Rattle.std.proofs.Common.{◌≡◌, ℕ, zero, ◌+◌, ◌<◌, ◌≤◌, Bool, true, false, cond, List, [], ◌∷◌, ◌++◌, length, codes, Option, Some, None, Ok, Err, refl, ap, subst, arith, length-append}
-use Rattle.std.specs.Prelude.{nat_lt}
+use Rattle.std.proofs.Common.{◌≡◌, ℕ, zero, ◌+◌, ◌<◌, ◌≤◌, Bool, true, false, cond, List, [], ◌∷◌, ◌++◌, length, Option, Some, None, Result, Ok, Err, refl, ap, subst, ◌∙◌, arith, length-append}
+use Rattle.std.specs.Prelude.{nat_lt, if◌then◌else◌}
 use Rattle.std.proofs.lemmas.Bool.{ltb-false}
-use Rattle.toml.specs.Data.{Data, Items, no_items, item, Members, get_member, as_array}
+use Rattle.toml.specs.Data.{Items, no_items, item, Members}
 use Rattle.shape_exact.specs.Yards.{PlainYard, plate_names, block_names}
 use Rattle.shape_exact.specs.declared.plate.Plate.{Plate}
 use Rattle.shape_exact.specs.declared.block.Block.{Block}
 use Rattle.shape_exact.specs.Reading.{where_so}
 use Rattle.shape_exact.proofs.ReadLaws.{none_at}
 use Rattle.code_table.specs.Placements.{placements}
-use Rattle.yard_file.specs.Values.{◌>>=◌, given, number_in}
-use Rattle.yard_file.specs.Arrays.{count, few, array_in}
+use Rattle.yard_file.specs.Values.{◌>>=◌, value_in, number_in}
+use Rattle.yard_file.specs.Keys.{known_keys}
+use Rattle.yard_file.specs.Arrays.{count, told, tables_of, few_plates, few_blocks, plate_tables, block_tables}
 use Rattle.yard_file.specs.Plates.{plate_of, plates_from}
 use Rattle.yard_file.specs.Blocks.{block_of, blocks_from}
 use Rattle.yard_file.specs.Sizes.{too_many, first_too_many}
 use Rattle.yard_file.specs.Documents.{document}
-use Rattle.yard_file.specs.Reads.{yard_fields, table_yard, unless, built, document_yard, yard_of}
+use Rattle.yard_file.specs.Reads.{version_in, unless, sized, rules, document_yard, yard_of}
+use Rattle.yard_file.specs.declared.place.At.TheVariants as places
+use Rattle.yard_file.specs.declared.place.Key.TheVariants as keys
 use Rattle.yard_file.specs.declared.fault.YardFault.{YardFault}
-use Rattle.yard_file.specs.declared.fault.YardFault.TheVariants.{TooLong, TooManyPlacements}
+use Rattle.yard_file.specs.declared.fault.YardFault.TheVariants.{TooLong, NoPlate, TooManyPlates, NoBlock, TooManyBlocks, TooManyPlacements}
 use Rattle.scheduler_run.specs.Accepted.{CanBePlanned}
 
 -- where two steps give a value, the first gives one, from which the second gives it
-bound : {A B : Type 0} (o : Option A) (f : A → Option B) (y : B) → (o >>= f) ≡ Some y → (x : A) × (o ≡ Some x) × (f x ≡ Some y)
-bound None f y e = cc
-bound (Some x) f y e = (x, refl, e)
-
-given_so : {A : Type 0} (b : Bool) (v : Option A) (y : A) → given b v ≡ Some y → (b ≡ true) × (v ≡ Some y)
-given_so true v y e = (refl, e)
-given_so false v y e = cc
+bound : {A B : Type 0} (r : Result A YardFault) (f : A → Result B YardFault) (y : B) → (r >>= f) ≡ Ok y → (x : A) × (r ≡ Ok x) × (f x ≡ Ok y)
+bound (Err fault) f y e = cc
+bound (Ok x) f y e = (x, refl, e)
 
 -- an array that has to have an item has one
-few_some : (most : ℕ) (ds items : Items) → few most ds ≡ Some items → 1 ≤ count items
-few_some most no_items items e = cc
-few_some most (item d ds) items e =
-    let same : item d ds ≡ items = (let s : Some (item d ds) ≡ Some items = (given_so _ (Some (item d ds)) items e).1 in cc) in
-    subst (λ i. 1 ≤ count i) same (omega arith)
+some_plate : (ds items : Items) → few_plates ds ≡ Ok items → 1 ≤ count items
+some_plate no_items items e = cc
+some_plate (item d ds) items e = by (nat_lt (count (item d ds)) 1) (nat_lt 8 (count (item d ds))) e
+  where
+    by : (none many : Bool)
+        → (if none then Err NoPlate else if many then Err (TooManyPlates (told (count (item d ds)))) else Ok (item d ds)) ≡ Ok items
+        → 1 ≤ count items
+    by true many e = cc
+    by false true e = cc
+    by false false e = let same : item d ds ≡ items = cc in subst (λ i. 1 ≤ count i) same (omega arith)
 
-array_some : (most : ℕ) (value : Option Data) (items : Items) → array_in most value ≡ Some items → 1 ≤ count items
-array_some most value items e = let s = bound (value >>= as_array) (few most) items e in few_some most s.0 items s.2
+some_block : (ds items : Items) → few_blocks ds ≡ Ok items → 1 ≤ count items
+some_block no_items items e = cc
+some_block (item d ds) items e = by (nat_lt (count (item d ds)) 1) (nat_lt 32 (count (item d ds))) e
+  where
+    by : (none many : Bool)
+        → (if none then Err NoBlock else if many then Err (TooManyBlocks (told (count (item d ds)))) else Ok (item d ds)) ≡ Ok items
+        → 1 ≤ count items
+    by true many e = cc
+    by false true e = cc
+    by false false e = let same : item d ds ≡ items = cc in subst (λ i. 1 ≤ count i) same (omega arith)
+
+plates_some : (ms : Members) (items : Items) → plate_tables ms ≡ Ok items → 1 ≤ count items
+unfolding plate_tables
+plates_some ms items e =
+    let s = bound (tables_of keys.Plate (value_in keys.Plate ms)) few_plates items e in some_plate s.0 items s.2
+
+blocks_some : (ms : Members) (items : Items) → block_tables ms ≡ Ok items → 1 ≤ count items
+unfolding block_tables
+blocks_some ms items e =
+    let s = bound (tables_of keys.Block (value_in keys.Block ms)) few_blocks items e in some_block s.0 items s.2
 
 -- each table becomes a plate
-plates_long : (days : ℕ) (done : List Plate) (items : Items) (ps : List Plate) → plates_from days done items ≡ Some ps
+plates_long : (days i : ℕ) (done : List Plate) (items : Items) (ps : List Plate) → plates_from days i done items ≡ Ok ps
     → length done + count items ≤ length ps
-plates_long days done no_items ps e = let same : done ≡ ps = cc in subst (λ l. length done + zero ≤ length l) same (omega arith)
-plates_long days done (item d ds) ps e =
-    let s = bound (plate_of days (plate_names done) d) (λ plate. plates_from days (done ++ plate ∷ []) ds) ps e in
-    let rest : length (done ++ s.0 ∷ []) + count ds ≤ length ps = plates_long days (done ++ s.0 ∷ []) ds ps s.2 in
+plates_long days i done no_items ps e = let same : done ≡ ps = cc in subst (λ l. length done + zero ≤ length l) same (omega arith)
+plates_long days i done (item d ds) ps e =
+    let s = bound (plate_of days i (plate_names done) d) (λ plate. plates_from days (i + 1) (done ++ plate ∷ []) ds) ps e in
+    let rest : length (done ++ s.0 ∷ []) + count ds ≤ length ps = plates_long days (i + 1) (done ++ s.0 ∷ []) ds ps s.2 in
     omega (arith, rest, length-append done (s.0 ∷ []))
 
 -- each table becomes a block
-blocks_long : (done : List Block) (items : Items) (bs : List Block) → blocks_from done items ≡ Some bs
+blocks_long : (i : ℕ) (done : List Block) (items : Items) (bs : List Block) → blocks_from i done items ≡ Ok bs
     → length done + count items ≤ length bs
-blocks_long done no_items bs e = let same : done ≡ bs = cc in subst (λ l. length done + zero ≤ length l) same (omega arith)
-blocks_long done (item d ds) bs e =
-    let s = bound (block_of (block_names done) d) (λ block. blocks_from (done ++ block ∷ []) ds) bs e in
-    let rest : length (done ++ s.0 ∷ []) + count ds ≤ length bs = blocks_long (done ++ s.0 ∷ []) ds bs s.2 in
+blocks_long i done no_items bs e = let same : done ≡ bs = cc in subst (λ l. length done + zero ≤ length l) same (omega arith)
+blocks_long i done (item d ds) bs e =
+    let s = bound (block_of i (block_names done) d) (λ block. blocks_from (i + 1) (done ++ block ∷ []) ds) bs e in
+    let rest : length (done ++ s.0 ∷ []) + count ds ≤ length bs = blocks_long (i + 1) (done ++ s.0 ∷ []) ds bs s.2 in
     omega (arith, rest, length-append done (s.0 ∷ []))
 
 -- the yard of these parts
-of_parts : ℕ → Option (List Plate) → Option (List Block) → Option PlainYard
-of_parts days p b = p >>= (λ plates. b >>= (λ blocks. Some (record { days = days; plates = plates; blocks = blocks })))
+parts_yard : ℕ → List Plate → List Block → PlainYard
+parts_yard days plates blocks = record { days = days; plates = plates; blocks = blocks; fixed = [] }
 
-parts : (days : ℕ) (p : Option (List Plate)) (b : Option (List Block)) (yard : PlainYard) → of_parts days p b ≡ Some yard
-    → (p ≡ Some yard.plates) × (b ≡ Some yard.blocks)
-unfolding of_parts
-parts days None b yard e = cc
-parts days (Some ps) None yard e = cc
-parts days (Some ps) (Some bs) yard e =
-    let whole : PlainYard = record { days = days; plates = ps; blocks = bs } in
-    let same : whole ≡ yard = cc in
-    (ap (λ y. Some y.plates) same, ap (λ y. Some y.blocks) same)
+unless_ok : (fault : Option YardFault) (y yard : PlainYard) → unless fault y ≡ Ok yard → (fault ≡ None) × (y ≡ yard)
+unless_ok None y yard e = (refl, (cc))
+unless_ok (Some fault) y yard e = cc
 
 -- the tables of the plates and of the blocks, from which the yard comes
 record Tables (ms : Members) (yard : PlainYard) : Type 0 where
   days : ℕ
   plates : Items
   blocks : Items
-  plates_are : array_in 8 (get_member (codes "plate") ms) ≡ Some plates
-  blocks_are : array_in 32 (get_member (codes "block") ms) ≡ Some blocks
-  plates_give : plates_from days [] plates ≡ Some yard.plates
-  blocks_give : blocks_from [] blocks ≡ Some yard.blocks
+  plates_are : plate_tables ms ≡ Ok plates
+  blocks_are : block_tables ms ≡ Ok blocks
+  plates_give : plates_from days 0 [] plates ≡ Ok yard.plates
+  blocks_give : blocks_from 0 [] blocks ≡ Ok yard.blocks
+  none_many : first_too_many yard ≡ None
 
-steps : (version days : Option ℕ) (ps bs : Option Items) (yard : PlainYard)
-    → (version >>= (λ v. days >>= (λ d. ps >>= (λ p. bs >>= (λ b. of_parts d (plates_from d [] p) (blocks_from [] b)))))) ≡ Some yard
-    → (d : ℕ) × (p : Items) × (b : Items) × (ps ≡ Some p) × (bs ≡ Some b) × (of_parts d (plates_from d [] p) (blocks_from [] b) ≡ Some yard)
-steps None days ps bs yard e = cc
-steps (Some v) None ps bs yard e = cc
-steps (Some v) (Some d) None bs yard e = cc
-steps (Some v) (Some d) (Some p) None yard e = cc
-steps (Some v) (Some d) (Some p) (Some b) yard e = (d, p, b, refl, refl, e)
+-- the rules in their order, each with what it gives
+after_blocks : (days : ℕ) (ps : List Plate) (bs : List Block) → Result PlainYard YardFault
+after_blocks days ps bs = sized (parts_yard days ps bs)
 
-tables_of : (ms : Members) (yard : PlainYard) → yard_fields ms ≡ Some yard → Tables ms yard
-unfolding yard_fields of_parts
-tables_of ms yard e =
-    let s = steps (number_in 1 1 (get_member (codes "version") ms)) (number_in 1 400 (get_member (codes "days") ms))
-    (array_in 8 (get_member (codes "plate") ms)) (array_in 32 (get_member (codes "block") ms)) yard e in
-    let t = parts s.0 (plates_from s.0 [] s.1) (blocks_from [] s.2) yard s.5 in
-    record { days = s.0; plates = s.1; blocks = s.2; plates_are = s.3; blocks_are = s.4; plates_give = t.0; blocks_give = t.1 }
+after_plates : ℕ → Items → List Plate → Result PlainYard YardFault
+after_plates days bts ps = blocks_from 0 [] bts >>= (λ bs. after_blocks days ps bs)
 
-unless_ok : (fault : Option YardFault) (y yard : PlainYard) → unless fault y ≡ Ok yard → (fault ≡ None) × (y ≡ yard)
-unless_ok None y yard e = (refl, (cc))
-unless_ok (Some fault) y yard e = cc
-
-built_ok : (t : Option PlainYard) (yard : PlainYard) → built t ≡ Ok yard → (t ≡ Some yard) × (first_too_many yard ≡ None)
-built_ok None yard e = cc
-built_ok (Some y) yard e =
-    let s = unless_ok (first_too_many y) y yard e in
-    (ap Some s.1, subst (λ z. first_too_many z ≡ None) s.1 s.0)
+tables_of_yard : (ms : Members) (yard : PlainYard) → rules ms ≡ Ok yard → Tables ms yard
+unfolding rules after_plates after_blocks parts_yard
+tables_of_yard ms yard e =
+    let after_tables : ℕ → Items → Items → Result PlainYard YardFault =
+    λ days pts bts. plates_from days 0 [] pts >>= (λ ps. after_plates days bts ps) in
+    let version = bound (version_in ms)
+    (λ v. known_keys places.Top ms >>= (λ k. number_in places.Top keys.Days 1 400 ms >>= (λ days. plate_tables ms >>= (λ pts. block_tables ms >>= (λ bts. after_tables days pts bts))))) yard e in
+    let known = bound (known_keys places.Top ms)
+    (λ k. number_in places.Top keys.Days 1 400 ms >>= (λ days. plate_tables ms >>= (λ pts. block_tables ms >>= (λ bts. after_tables days pts bts)))) yard version.2 in
+    let days = bound (number_in places.Top keys.Days 1 400 ms)
+    (λ days. plate_tables ms >>= (λ pts. block_tables ms >>= (λ bts. after_tables days pts bts))) yard known.2 in
+    let pts = bound (plate_tables ms) (λ pts. block_tables ms >>= (λ bts. after_tables days.0 pts bts)) yard days.2 in
+    let bts = bound (block_tables ms) (λ bts. after_tables days.0 pts.0 bts) yard pts.2 in
+    let ps = bound (plates_from days.0 0 [] pts.0) (λ ps. after_plates days.0 bts.0 ps) yard bts.2 in
+    let bs = bound (blocks_from 0 [] bts.0) (λ bs. after_blocks days.0 ps.0 bs) yard ps.2 in
+    let whole : PlainYard = parts_yard days.0 ps.0 bs.0 in
+    let s = unless_ok (first_too_many whole) whole yard bs.2 in
+    record {
+      days = days.0;
+      plates = pts.0;
+      blocks = bts.0;
+      plates_are = pts.1;
+      blocks_are = bts.1;
+      plates_give = ps.1 ∙ ap (λ (y : PlainYard). Ok y.plates) s.1;
+      blocks_give = bs.1 ∙ ap (λ (y : PlainYard). Ok y.blocks) s.1;
+      none_many = subst (λ y. first_too_many y ≡ None) s.1 s.0;
+    }
 
 -- the document that the yard comes from
 read_ok : (long : Bool) (doc : Option Members) (yard : PlainYard) → cond long (Err TooLong) (document_yard doc) ≡ Ok yard
-    → (ms : Members) × (yard_fields ms ≡ Some yard) × (first_too_many yard ≡ None)
+    → (ms : Members) × (rules ms ≡ Ok yard)
 read_ok true doc yard e = cc
 read_ok false None yard e = cc
-read_ok false (Some ms) yard e =
-    let s = built_ok (table_yard ms) yard e in (ms, (given_so _ (yard_fields ms) yard s.0).1, s.1)
+read_ok false (Some ms) yard e = (ms, e)
 
 not_many : (b : Bool) (fault : YardFault) → where_so b fault ≡ None → b ≡ false
 not_many true fault e = cc
@@ -131,9 +155,9 @@ pub can_be_planned : (bytes : List ℕ) (yard : PlainYard) → yard_of bytes ≡
 unfolding yard_of
 can_be_planned bytes yard e =
     let s = read_ok (nat_lt 1048576 (length bytes)) (document bytes) yard e in
-    let t = tables_of s.0 yard s.1 in
-    let plate : 1 ≤ count t.plates = array_some 8 (get_member (codes "plate") s.0) t.plates t.plates_are in
-    let block : 1 ≤ count t.blocks = array_some 32 (get_member (codes "block") s.0) t.blocks t.blocks_are in
-    let plates : length {A = Plate} [] + count t.plates ≤ length yard.plates = plates_long t.days [] t.plates yard.plates t.plates_give in
-    let blocks : length {A = Block} [] + count t.blocks ≤ length yard.blocks = blocks_long [] t.blocks yard.blocks t.blocks_give in
-    record { plates = omega (arith, plate, plates); blocks = omega (arith, block, blocks); few = few_placements yard s.2 }
+    let t = tables_of_yard s.0 yard s.1 in
+    let plate : 1 ≤ count t.plates = plates_some s.0 t.plates t.plates_are in
+    let block : 1 ≤ count t.blocks = blocks_some s.0 t.blocks t.blocks_are in
+    let plates : length {A = Plate} [] + count t.plates ≤ length yard.plates = plates_long t.days 0 [] t.plates yard.plates t.plates_give in
+    let blocks : length {A = Block} [] + count t.blocks ≤ length yard.blocks = blocks_long 0 [] t.blocks yard.blocks t.blocks_give in
+    record { plates = omega (arith, plate, plates); blocks = omega (arith, block, blocks); few = few_placements yard t.none_many }

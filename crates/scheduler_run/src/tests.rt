@@ -1,10 +1,14 @@
 //! Runs over desks in memory, and one over the real files. The texts of the rows are worked by hand.
 ghost use Rattle.std.specs.Prelude.{◌≡◌};
 
+mod calling;
+mod early;
 mod logs;
+mod outside;
 mod regions;
 mod twelve_blocks;
 mod unread;
+mod watched;
 mod yards;
 
 use crate::{Status, run, run_quietly};
@@ -37,7 +41,7 @@ fn words_and_bytes(rt: HostRuntime) -> Result<(), Fail> {
             &["plan", "y"],
             b"version = 1\ndays = 10\n",
             1,
-            "refused yard 18 NotBuilt\n",
+            "refused yard 8 NoPlate\n",
         ),
     ];
     for (words, bytes, status, said) in cases {
@@ -104,7 +108,7 @@ total 0
         (
             &[TEN_DAYS, PLATE_4X3, A, NOT_CONVEX, TWO_DAYS_DUE_1],
             1,
-            "refused yard 18 NotBuilt\n",
+            "refused yard 15 Shape block 0 NotConvex 0 3\n",
         ),
         (
             &[TEN_DAYS, PLATE_CLOSED, A, SQUARE_2, FROM_4],

@@ -1,5 +1,5 @@
 //! The top call.
-ghost use Rattle.std.specs.Prelude.{◌≡◌, ◌≢◌, ◌≤◌, ◌⊎◌, ◌↔◌, ℕ, List, IfOk, map, option_map};
+ghost use Rattle.std.specs.Prelude.{◌≡◌, ◌≢◌, ◌≤◌, ◌⊎◌, ◌↔◌, ℕ, List, IfOk, IsErrOf, map, option_map};
 ghost use Rattle.yard_io.specs.Desk.{Same, SameFiles, HasCause, Rose, SaidFront, then_said};
 ghost use Rattle.yard_io.specs.QuietDesk.{file_of, said_of};
 ghost use Rattle.scheduler_run.specs.Answers.{Answers, yard_word, IsAnswered, IsCutShort, SaysAnswer, SaysFront};
@@ -27,6 +27,7 @@ fn reply_to<D: Desk>(alloc: Global, words: &[&str], desk: &mut D) -> Result<Repl
         Answers (map (λ w. w.now) words.now) (D.file desk.old) reply.status reply.text.items) }
     ensures answered { IfOk result (λ reply. IsAnswered reply.status) }
     ensures same { Same (D.file desk.old) (D.said desk.old) (D.file desk.new) (D.said desk.new) }
+    ensures words { yard_word (map (λ w. w.now) words.now) ≡ None → IsErrOf result Trouble.Failed → ⊥ }
     ensures cause { HasCause (D.read_faults desk.old) (D.read_faults desk.new) result }
     ensures writes { D.write_faults desk.old ≤ D.write_faults desk.new }
 {
@@ -69,6 +70,7 @@ pub fn run<R: Threads + Sync, D: Desk, G: Gate + Sync>(
     ensures answer { IsAnswered result.0 →
         SaysAnswer (map (λ w. w.now) words.now) (D.file desk.old) result.0 (D.said desk.old) (D.said desk.new) }
     ensures usage { IsAnswered result.0 → (result.0 ≡ 2) ↔ (yard_word (map (λ w. w.now) words.now) ≡ None) }
+    ensures words { yard_word (map (λ w. w.now) words.now) ≡ None → result.0 ≢ 4 }
     ensures read_fault { result.0 ≡ 4 → Rose (D.read_faults desk.old) (D.read_faults desk.new) }
     ensures write_fault { result.0 ≡ 5 → Rose (D.write_faults desk.old) (D.write_faults desk.new) }
     ensures silent { result.0 ≡ 4 → D.said desk.new ≡ D.said desk.old }

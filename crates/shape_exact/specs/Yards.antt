@@ -1,18 +1,21 @@
--- The plain yard: days, plates and blocks within the limits.
-use Rattle.std.specs.Prelude.{◌≡◌, ℕ, ◌≤◌, ◌<◌, Bool, true, false, List, length, All, map}
+-- The plain yard: days, plates, blocks and fixed pieces within the limits.
+use Rattle.std.specs.Prelude.{◌≡◌, ℕ, ◌+◌, ◌≤◌, ◌<◌, pos, Bool, true, false, List, length, All, map, Some, slice_get}
 use Rattle.std.specs.List.{list_any, AllPairs}
 use Rattle.std.specs.Str.{bytes_eq}
 use Rattle.shape_exact.specs.Names.{is_name}
 use Rattle.shape_exact.specs.Days.{are_days}
-use Rattle.shape_exact.specs.Shapes.{IsShape}
+use Rattle.shape_exact.specs.Shapes.{IsShape, AreApart, reach_x, reach_y}
 use Rattle.shape_exact.specs.declared.plate.Plate.{Plate}
 use Rattle.shape_exact.specs.declared.block.Block.{Block}
+use Rattle.shape_exact.specs.declared.fixed.Fixed.{Fixed}
+use Rattle.shape_exact.specs.declared.point.Point.{Point}
 
 -- a yard as contracts see it
 pub record PlainYard : Type 0 where
   pub days : ℕ
   pub plates : List Plate
   pub blocks : List Block
+  pub fixed : List Fixed
 
 -- a plate within the limits, its closed days below the number of days
 pub record IsPlate (days : ℕ) (p : Plate) : Type 0 where
@@ -31,6 +34,29 @@ pub record IsBlock (b : Block) : Type 0 where
   pub release : b.release ≤ 399
   pub due : b.due ≤ 399
   pub weight : b.weight ≤ 1000
+  pub early : b.early ≤ 1000
+
+-- where a piece's footprint is shifted to
+abbrev pub piece_at : Fixed → Point
+piece_at f = record { x = pos f.x; y = pos f.y }
+
+-- a piece lies inside the plate, and its days are in order and below the number of days
+pub record LiesWithin (n : ℕ) (plate : Plate) (f : Fixed) : Type 0 where
+  pub order : f.from ≤ f.to
+  pub days : f.to < n
+  pub wide : f.x + reach_x f.shape ≤ plate.width
+  pub high : f.y + reach_y f.shape ≤ plate.height
+
+-- a piece that stands inside a plate, on days below the number of days
+pub record IsPiece (n : ℕ) (plates : List Plate) (f : Fixed) : Type 0 where
+  pub plate : Plate
+  pub plate_is : slice_get plates f.plate ≡ Some plate
+  pub shape : IsShape f.shape
+  pub within : LiesWithin n plate f
+
+-- two pieces are apart where they are on one plate and share a day
+abbrev pub StandApart : Fixed → Fixed → Type 0
+StandApart f g = f.plate ≡ g.plate → f.from ≤ g.to → g.from ≤ f.to → AreApart f.shape (piece_at f) g.shape (piece_at g)
 
 -- one of the names is this name
 abbrev pub has_name : List (List ℕ) → List ℕ → Bool
@@ -46,7 +72,7 @@ block_names blocks = map (λ b. b.name) blocks
 abbrev pub AreDistinct : List (List ℕ) → Type 0
 AreDistinct names = AllPairs (λ n m. bytes_eq n m ≡ false) names
 
--- what every yard keeps: each part within the limits, and no name twice
+-- what every yard keeps: each part within the limits, no name twice, and no two pieces on the same ground on one day
 pub record IsYard (y : PlainYard) : Type 0 where
   pub days : (1 ≤ y.days) × (y.days ≤ 400)
   pub few_plates : length y.plates ≤ 8
@@ -55,6 +81,9 @@ pub record IsYard (y : PlainYard) : Type 0 where
   pub blocks : All IsBlock y.blocks
   pub plate_names : AreDistinct (plate_names y.plates)
   pub block_names : AreDistinct (block_names y.blocks)
+  pub few_fixed : length y.fixed ≤ 48
+  pub fixed : All (IsPiece y.days y.plates) y.fixed
+  pub fixed_apart : AllPairs StandApart y.fixed
 
 -- the plate may be added: there is room, it is within the limits, and its name is new
 pub record CanAddPlate (y : PlainYard) (p : Plate) : Type 0 where
@@ -67,3 +96,9 @@ pub record CanAddBlock (y : PlainYard) (b : Block) : Type 0 where
   pub room : length y.blocks < 32
   pub limits : IsBlock b
   pub new : has_name (block_names y.blocks) b.name ≡ false
+
+-- the piece may be added: there is room, it stands inside its plate, and it is apart from the others
+pub record CanAddFixed (y : PlainYard) (f : Fixed) : Type 0 where
+  pub room : length y.fixed < 48
+  pub limits : IsPiece y.days y.plates f
+  pub apart : All (λ g. StandApart g f) y.fixed

@@ -1,6 +1,7 @@
 //! Each public call of reading and of the plain yard once, on the worked examples.
 
-use crate::{Block, DayList, Name, Plate, Point, Shape, ShapeFault, Yard};
+use crate::{Block, DayList, Fixed, Name, Plate, Point, Shape, ShapeFault, Yard};
+use std::process::Abort;
 
 fn at(x: i32, y: i32) -> Point {
     Point { x, y }
@@ -65,9 +66,50 @@ fn a_yard_holds_its_parts_in_order(rt: HostRuntime) {
         release: 0,
         due: 1,
         weight: 1,
+        early: 0,
     });
     assert_eq!(rt;
         (yard.days(), yard.plates().len(), yard.blocks().len()),
         (10, 1, 1)
     );
+}
+
+/// A square piece of side 2 on plate 0.
+fn piece(rt: &impl Abort, x: u16, from: u16, to: u16) -> Fixed {
+    let corners = [at(0, 0), at(2, 0), at(2, 2), at(0, 2)];
+    Fixed {
+        plate: 0,
+        shape: Shape::read(&corners).expect(rt, "a square"),
+        x,
+        y: 0,
+        from,
+        to,
+    }
+}
+
+#[test]
+fn pieces_stand_inside_and_apart(rt: HostRuntime) {
+    let mut yard = Yard::start(10);
+    yard.add_plate(Plate {
+        name: Name::default(),
+        width: 4,
+        height: 3,
+        pitch: 3,
+        closed: DayList::empty(),
+    });
+    let first = piece(&rt, 1, 0, 1);
+    assert!(rt; yard.can_add_fixed(&first));
+    yard.add_fixed(first);
+    assert_eq!(rt; yard.fixed().len(), 1);
+    for (x, from, to, may) in [
+        (1, 0, 1, false),
+        (2, 1, 9, false),
+        (2, 2, 9, true),
+        (3, 2, 9, false),
+        (0, 2, 10, false),
+        (0, 3, 2, false),
+        (0, 9, 9, true),
+    ] {
+        assert_eq!(rt; yard.can_add_fixed(&piece(&rt, x, from, to)), may);
+    }
 }

@@ -15,7 +15,9 @@ file_of desk name = text_at desk.files name
 abbrev pub said_of : QuietDesk → List ℕ
 said_of desk = desk.said.items
 
--- how many bytes a read gives, and that one of a missing file, or at or past the end, fills the buffer with 0
+-- how many bytes a read gives: a piece of the file, or, of a missing file and at or past the end, the whole buffer,
+-- filled with 0
 pub record ReadsPiece (bite : ℕ) (file : Option (List ℕ)) (at : ℕ) (old new : List ℕ) (n : ℕ) : Type 0 where
   pub inside : IfSome file (λ bytes. at < length bytes → n ≡ read_piece bite old at bytes)
+  pub whole : IfSome file (λ bytes. length bytes ≤ at) → n ≡ length old
   pub past : IfSome file (λ bytes. length bytes ≤ at) → new ≡ replicate (length old) 0

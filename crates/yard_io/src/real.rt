@@ -1,5 +1,5 @@
 //! The desk over the real files and standard output.
-ghost use Rattle.std.specs.Prelude.{◌≡◌, ◌≤◌, ◌<◌, length, IfOk};
+ghost use Rattle.std.specs.Prelude.{◌≡◌, ◌≤◌, ◌<◌, length, IfOk, OnErr};
 ghost use Rattle.yard_io.specs.Desk.{Rose, IsPiece};
 
 use crate::{Desk, Trouble};
@@ -8,8 +8,9 @@ use std::io::{Read, Seek, SeekFrom, Write};
 use std::rt::Files;
 use std::{fs, io};
 
-/// Adapts files and standard output. It tells nothing of their content. At each Err it raises the count of its kind,
-/// which stays at the greatest u64; a read or a write of nothing counts as a fault.
+/// Adapts files and standard output. It tells nothing of their content. At each Err, want of memory that the system
+/// tells included, it raises the count of its kind, which stays at the greatest u64; a read or a write of nothing counts
+/// as a fault.
 #[derive(Drop)]
 pub struct RealDesk<'a, R> {
     rt: &'a R,
@@ -79,35 +80,61 @@ impl<'a, R: Files + Print> Desk for RealDesk<'a, R> {
 
     ghost write_faults = { writes_of };
 
-    fn length(&mut self, name: &str) -> Result<u64, Trouble> {
+    fn length(&mut self, name: &str) -> Result<u64, Trouble>
+        ensures raised { OnErr result (Rose (reads_of self.old) (reads_of self.new)) }
+        ensures reads { reads_of self.old ≤ reads_of self.new }
+        ensures writes { writes_of self.old ≤ writes_of self.new }
+    {
         match fs::metadata(self.rt, name) {
             Ok(about) => Ok(about.len()),
             Err(_) => Err(self.read_fault()),
         }
     }
 
-    fn read(&mut self, name: &str, at: u64, buf: &mut [u8]) -> Result<usize, Trouble> {
+    fn read(&mut self, name: &str, at: u64, buf: &mut [u8]) -> Result<usize, Trouble>
+        requires { 0 < length buf.old }
+        ensures count { IfOk result (IsPiece buf.new) }
+        ensures raised { OnErr result (Rose (reads_of self.old) (reads_of self.new)) }
+        ensures reads { reads_of self.old ≤ reads_of self.new }
+        ensures writes { writes_of self.old ≤ writes_of self.new }
+    {
         match read_at(self.rt, name, at, buf) {
             Ok(n) if n > 0 => Ok(n),
             _ => Err(self.read_fault()),
         }
     }
 
-    fn fresh(&mut self, name: &str) -> Result<(), Trouble> {
+    fn fresh(&mut self, name: &str) -> Result<(), Trouble>
+        ensures raised { OnErr result (Rose (writes_of self.old) (writes_of self.new)) }
+        ensures reads { reads_of self.old ≤ reads_of self.new }
+        ensures writes { writes_of self.old ≤ writes_of self.new }
+    {
         match fs::create(self.rt, name) {
             Ok(_) => Ok(()),
             Err(_) => Err(self.write_fault()),
         }
     }
 
-    fn append(&mut self, name: &str, bytes: &[u8]) -> Result<usize, Trouble> {
+    fn append(&mut self, name: &str, bytes: &[u8]) -> Result<usize, Trouble>
+        requires { 0 < length bytes.now }
+        ensures count { IfOk result (IsPiece bytes.now) }
+        ensures raised { OnErr result (Rose (writes_of self.old) (writes_of self.new)) }
+        ensures reads { reads_of self.old ≤ reads_of self.new }
+        ensures writes { writes_of self.old ≤ writes_of self.new }
+    {
         match append_to(self.rt, name, bytes) {
             Ok(n) if n > 0 => Ok(n),
             _ => Err(self.write_fault()),
         }
     }
 
-    fn say(&mut self, bytes: &[u8]) -> Result<usize, Trouble> {
+    fn say(&mut self, bytes: &[u8]) -> Result<usize, Trouble>
+        requires { 0 < length bytes.now }
+        ensures count { IfOk result (IsPiece bytes.now) }
+        ensures raised { OnErr result (Rose (writes_of self.old) (writes_of self.new)) }
+        ensures reads { reads_of self.old ≤ reads_of self.new }
+        ensures writes { writes_of self.old ≤ writes_of self.new }
+    {
         match self.rt.write_some(bytes) {
             Ok(n) if n > 0 => Ok(n),
             _ => Err(self.write_fault()),

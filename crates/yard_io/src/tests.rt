@@ -15,7 +15,12 @@ fn real_file(rt: HostRuntime) -> Result<(), Fail> {
         Ok(bytes) => assert_eq!(rt; bytes.as_slice(), b"version = 1".as_slice()),
         Err(_) => assert!(rt; false),
     }
+    let mut inside = [0u8; 3];
+    assert_eq!(rt; desk.read(name, 8, &mut inside), Ok(3));
+    assert_eq!(rt; inside.as_slice(), b"= 1".as_slice());
     assert_eq!(rt; desk.read(name, 11, &mut [0u8; 4]), Err(Trouble::Failed));
+    assert_eq!(rt; desk.fresh(name), Ok(()));
+    assert_eq!(rt; desk.length(name), Ok(0));
     assert!(rt; fs::remove_file(&rt, name).is_ok());
     assert_eq!(rt; desk.length(name), Err(Trouble::Failed));
     Ok(())

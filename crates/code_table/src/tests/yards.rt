@@ -8,13 +8,14 @@ use shape_exact::{Block, DayList, Name, Plate, Point, Shape, Yard};
 use std::process::Abort;
 
 /// A yard: its days, two plates as width, height, pitch and a closed day (400 for none; no plate where the width is 0),
-/// and a block as its corners, turns, duration, release and due day.
+/// and a block as its corners, turns, duration, release, due day and early cost.
 #[derive(Clone, Copy)]
 pub(crate) struct Row(
     pub(crate) u16,
     pub(crate) [(u16, u16, u16, u16); 2],
     pub(crate) [(i32, i32); 4],
     pub(crate) [bool; 4],
+    pub(crate) u16,
     pub(crate) u16,
     pub(crate) u16,
     pub(crate) u16,
@@ -100,9 +101,9 @@ fn block_of(rt: &impl Abort, row: &Row) -> Block
     let _bytes = name.bytes();
     let turns = row.3;
     assert!(rt; any_turn(&turns));
-    let (duration, release, due) = (row.4, row.5, row.6);
+    let (duration, release, due, early) = (row.4, row.5, row.6, row.7);
     assert!(rt; 1 <= duration && duration <= 400);
-    assert!(rt; release <= 399 && due <= 399);
+    assert!(rt; release <= 399 && due <= 399 && early <= 1000);
     Block {
         name,
         shape,
@@ -111,6 +112,7 @@ fn block_of(rt: &impl Abort, row: &Row) -> Block
         release,
         due,
         weight: 3,
+        early,
     }
 }
 

@@ -1,13 +1,13 @@
 //! Branches worked by hand: codes that clash, codes that citations cover, and the first of the others.
-ghost use Rattle.std.specs.Prelude.{◌≡◌, ◌+◌, ◌<◌, ◌≤◌, ℕ, All, IsTrue, length};
-ghost use Rattle.shape_exact.specs.Yards.{IsBlock, block_names, has_name};
-ghost use Rattle.code_table.specs.Placements.{placements};
+ghost use Rattle.std.specs.Prelude.{◌≡◌, ◌+◌, ◌<◌, All, IsTrue, length};
+ghost use Rattle.shape_exact.specs.Yards.{IsBlock};
 ghost use Rattle.plan_rule.specs.Yards.{choices};
 ghost use Rattle.log_checker.specs.Forms.{HasForm};
 
 use super::branch_fault;
 use crate::form::has_form;
-use code_table::{Codes, placement_count};
+use crate::tests::yards::{are_few, has_block};
+use code_table::Codes;
 use refutation_log::{Record, read_log};
 use shape_exact::{Block, DayList, Name, NoMemory, Plate, Shape, Yard};
 use std::alloc::Global;
@@ -18,18 +18,6 @@ use std::test::Fail;
 const LOG: &[u8] = b"log 1\nbranch 1 0 2 - -\nbranch 1 3 5 0:2 -\nbranch 1 3 6 0:1 -\nfit 0:2..4\n\
     branch 1 0 6 0:2 -\nbranch 1 2 3 0:2 -\nbranch 1 0 6 0:2 0\nbranch 1 0 6 0:2 0,1\nbranch 1 0 6 0:2 0,1,2\n\
     branch 1 0 5 0:2 0,1\nbranch 1 0 6 0:2 3\nbranch 1 1 5 0:2 1\nend\n";
-
-/// Whether a block of the list has the name.
-fn has_block(blocks: &[Block], name: &[u8]) -> bool
-    ensures { result ≡ has_name (block_names blocks.now) name.now }
-{
-    for block in blocks {
-        if block.name.bytes() == name {
-            return true;
-        }
-    }
-    false
-}
 
 /// A block of this name: a triangle for one day.
 fn triangle(name: Name) -> Block
@@ -45,6 +33,7 @@ fn triangle(name: Name) -> Block
         release: 0,
         due: 0,
         weight: 1,
+        early: 0,
     }
 }
 
@@ -74,18 +63,6 @@ fn triangles(rt: &impl Abort) -> Yard
     add_triangle(rt, &mut yard, Name::default());
     add_triangle(rt, &mut yard, Name::read(b"B").expect(rt, "a name"));
     yard
-}
-
-/// Whether no block has more placements than a table of codes takes.
-fn are_few(yard: &Yard) -> bool
-    ensures { IsTrue result → (b : ℕ) → b < length yard.now.blocks → length (placements yard.now b) ≤ 1048576 }
-{
-    for b in 0..yard.blocks().len() {
-        if placement_count(yard, b as u8) > 1_048_576 {
-            return false;
-        }
-    }
-    true
 }
 
 /// Whether each record has the form of one.

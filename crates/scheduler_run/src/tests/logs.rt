@@ -1,5 +1,6 @@
 //! What the checker says of logs and plans of small yards, worked by hand.
 
+use super::calling::is_shown_best;
 use super::regions::codes_of;
 use super::yards::*;
 use code_table::Codes;
@@ -206,6 +207,37 @@ fn verdicts_on_logs_of_small_yards(rt: HostRuntime) -> Result<(), Fail> {
         };
         let line = judged(rt.alloc(), &codes, plan, log)?;
         assert_eq!(rt; line.as_slice(), said.as_bytes(), "at {said}");
+    }
+    Ok(())
+}
+
+const AT_0: &[u8] = b"plan 1
+block A plate P turn 0 x 0 y 0 start 0 end 1 tardiness 0
+total 0
+";
+
+const AT_1: &[u8] = b"plan 1
+block A plate P turn 0 x 1 y 0 start 0 end 1 tardiness 0
+total 0
+";
+
+#[test]
+fn the_first_of_two_plans_of_one_total_is_shown_best(rt: HostRuntime) -> Result<(), Fail> {
+    let parts = [TEN_DAYS, PLATE_4X3, A, SQUARE_2, TWO_DAYS_DUE_1];
+    let Some(codes) = codes_of(rt.alloc(), &parts) else {
+        assert!(rt; false, "the yard has codes");
+        return Ok(());
+    };
+    let log = read_log(rt.alloc(), b"log 1\nbranch 0 0 54 - -\nend\n")?;
+    for (text, shown) in [(AT_0, true), (AT_1, false)] {
+        match read_plan(rt.alloc(), &codes, text) {
+            Ok(Some(plan)) => {
+                let copy = plan.copy(rt.alloc())?;
+                assert_eq!(rt; copy.codes(), plan.codes());
+                assert_eq!(rt; is_shown_best(rt.alloc(), &codes, &copy, &log)?, shown);
+            }
+            _ => assert!(rt; false, "the text is a plan's"),
+        }
     }
     Ok(())
 }

@@ -1,17 +1,10 @@
 //! The regions of jobs on small yards, worked by hand.
 
+use super::calling::codes_of_file;
 use super::yards::*;
 use code_table::Codes;
 use plan_rule::{Job, Region, halves, region_of};
 use std::alloc::Global;
-use yard_file::read_yard;
-
-fn coded(alloc: Global, bytes: &[u8]) -> Option<Codes> {
-    match read_yard(alloc, bytes) {
-        Ok(yard) => Codes::new(alloc, &yard).ok(),
-        Err(_) => None,
-    }
-}
 
 /// The codes of the yard that these parts make.
 pub fn codes_of(alloc: Global, parts: &[&str]) -> Option<Codes> {
@@ -19,7 +12,7 @@ pub fn codes_of(alloc: Global, parts: &[&str]) -> Option<Codes> {
     for part in parts {
         text.extend_from_slice(part.as_bytes()).ok()?;
     }
-    coded(alloc, text.as_slice())
+    codes_of_file(alloc, text.as_slice()).ok()
 }
 
 /// Whether the job of this word leaves these codes of the first blocks and this range of the next; None where it leaves

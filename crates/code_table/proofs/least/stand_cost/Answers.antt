@@ -1,4 +1,4 @@
-use Rattle.std.proofs.Common.{◌*◌, ◌∙◌, ap}
+use Rattle.std.proofs.Common.{◌∙◌}
 use Rattle.code_table.proofs.ReadLaws.{stand_of}
 use Rattle.code_table.proofs.CostLaws.{least_flat, least_stand}
 use Rattle.code_table.proofs.least.stand_cost.Goals as goal
@@ -14,5 +14,4 @@ returns-in_default c =
 pub returns : goal.returns
 returns c =
     least_stand c.args.yard.now c.args.block.now c.args.sums.now c.args.k _ _ _ c.in-Some.end _ c.requires.sums c.requires.k c.if-sums-k.false
-    c.nth_stand-at.ensures.start c.nth_stand-at.ensures.plate c.nth_stand-at.ensures.turn c.in-Some.ensures.some
-    (ap (λ n. c.args.block.now.weight * n) c.saturating_sub.ensures)
+    c.nth_stand-at.ensures.start c.nth_stand-at.ensures.plate c.nth_stand-at.ensures.turn c.in-Some.ensures.some c.cost_on.ensures.value

@@ -5,7 +5,7 @@ use Rattle.plan_rule.specs.Choices.{Choices, blocks}
 use Rattle.plan_rule.specs.Bounds.{MayFit}
 use Rattle.plan_rule.specs.Yards.{choices}
 use Rattle.plan_rule.proofs.TellLaws.{told}
-use Rattle.log_checker.specs.FixedBlocks.{AreFixed}
+use Rattle.log_checker.specs.ExactBlocks.{AreExact}
 use Rattle.log_checker.specs.Leasts.{IsFitUpTo}
 use Rattle.log_checker.proofs.FitExistLaws.{fit_exists}
 use Rattle.log_checker.proofs.FitLaws.{above_by_next, above_by_rest, never_fits, rest_has, rest_next}
@@ -63,9 +63,9 @@ returns-in_err-sum c =
           left c.in_err-sum.ensures is,
     )
 
-pub least_fit-requires-clause-fixed : goal.least_fit-requires-clause-fixed
-least_fit-requires-clause-fixed c =
-    subst (AreFixed c.args.codes.now c.args.side.now) (sym c.as_slice-fixed.ensures.value) c.fixed_of-fixed.ensures.fixed
+pub least_fit-requires-clause-exacts : goal.least_fit-requires-clause-exacts
+least_fit-requires-clause-exacts c =
+    subst (AreExact c.args.codes.now c.args.side.now) (sym c.as_slice-exacts.ensures.value) c.exact_of-exacts.ensures.exacts
 
 pub loop-block-preserved : goal.loop-block-preserved
 loop-block-preserved c =

@@ -2,8 +2,8 @@ use Rattle.std.proofs.Common.{sym}
 use Rattle.plan_rule.specs.Yards.{choices}
 use Rattle.plan_rule.proofs.CountLaws.{block_exists, code_exists}
 use Rattle.log_checker.proofs.FreeLaws.{least_clear_fits}
-use Rattle.log_checker.proofs.LeastLaws.{fits_fixed}
-use Rattle.log_checker.proofs.RestLaws.{fixed_exists}
+use Rattle.log_checker.proofs.LeastLaws.{fits_exact}
+use Rattle.log_checker.proofs.RestLaws.{exact_exists}
 use Rattle.log_checker.proofs.fit.least_fit.Goals as goal
 
 pub own_cost-requires-clause-block : goal.own_cost-requires-clause-block
@@ -12,14 +12,14 @@ own_cost-requires-clause-block c = block_exists _ _ c.requires.block
 pub own_cost-requires-clause-code : goal.own_cost-requires-clause-code
 own_cost-requires-clause-code c =
     code_exists c.args.codes.now c.args.block c.in-Some.code
-    (fixed_exists (choices c.args.codes.now) c.args.side.now c.args.block c.in-Some.code c.requires.side (sym c.in-Some.ensures))
+    (exact_exists (choices c.args.codes.now) c.args.side.now c.args.block c.in-Some.code c.requires.side (sym c.in-Some.ensures))
 
 pub returns-in-Some : goal.returns-in-Some
 returns-in-Some c =
-    fits_fixed c.args.codes.now c.args.side.now c.args.block c.in-Some.code c.own_cost.result c.args.limit c.up_to.result c.requires.side
+    fits_exact c.args.codes.now c.args.side.now c.args.block c.in-Some.code c.own_cost.result c.args.limit c.up_to.result c.requires.side
     (sym c.in-Some.ensures) c.own_cost.ensures.value c.up_to.ensures
 
 pub returns-in-None : goal.returns-in-None
 returns-in-None c =
-    least_clear_fits c.args.codes.now c.args.side.now c.args.fixed.now c.args.block c.args.limit c.least_free.result c.requires.fixed
+    least_clear_fits c.args.codes.now c.args.side.now c.args.exacts.now c.args.block c.args.limit c.least_free.result c.requires.exacts
     (sym c.in-None.ensures) c.least_free.ensures

@@ -1,36 +1,29 @@
-use Rattle.std.proofs.Common.{◌≤◌, ap, ◌∙◌, sym, subst, arith}
+use Rattle.std.proofs.Common.{◌≤◌, ap, ◌∙◌, sym, arith}
 use Rattle.std.proofs.lemmas.Option.{same_Some}
 use Rattle.code_table.specs.declared.placement.Placement.{Placement}
+use Rattle.code_table.specs.Stretches.{nth_place}
 use Rattle.plan_rule.specs.Yards.{choices}
 use Rattle.plan_rule.proofs.CountLaws.{block_exists, cost_is, count-length, is_code}
-use Rattle.log_checker.specs.Leasts.{IsClear, IsLeastClear}
+use Rattle.log_checker.specs.Leasts.{IsClear}
 use Rattle.log_checker.proofs.LeastLaws.{least_done}
 use Rattle.log_checker.proofs.OnwardLaws.{onward_cost}
 use Rattle.log_checker.proofs.free.least_free.Goals as goal
 
-pub returns-in_err-least : goal.returns-in_err-least
-returns-in_err-least c =
-    subst (IsLeastClear c.args.codes.now c.args.fixed.now c.args.block c.args.limit) (sym c.from_residual.ensures)
-    (λ x clear.
-    let n = count-length c.args.codes.now c.args.block (block_exists c.args.codes.now c.args.block c.requires.block) in
-    let none = c.in_err-least.ensures.none in
-    let within = clear.0 in
-    absurd (omega arith))
-
 pub returns-then-not-is_better : goal.returns-then-not-is_better
 returns-then-not-is_better c =
-    least_done (IsClear c.args.codes.now c.args.fixed.now c.args.block) ((choices c.args.codes.now).cost c.args.block) c.args.limit c.loop-code.code
+    let n = count-length c.args.codes.now c.args.block (block_exists c.args.codes.now c.args.block c.requires.block) in
+    least_done (IsClear c.args.codes.now c.args.exacts.now c.args.block) ((choices c.args.codes.now).cost c.args.block) c.args.limit c.loop-code.code
     c.max-floor.result c.loop-code.best c.loop-code.invariant
     (λ k le clear.
-    let n = count-length c.args.codes.now c.args.block (block_exists c.args.codes.now c.args.block c.requires.block) in
     let within = clear.0 in
     let least = c.in_ok-least.ensures.least k (omega arith) in
     let cost = cost_is c.args.codes.now c.args.block k in
     let from : c.least_from.result ≤ (choices c.args.codes.now).cost c.args.block k =
-    onward_cost c.args.codes.now c.args.block c.loop-code.code k c.place-place.result.start c.least_from.result c.least_from.ensures.limits
+    onward_cost c.args.codes.now c.args.block c.loop-code.code k c.stretch-stretch.result.place.start c.least_from.result c.least_from.ensures.limits
     c.codes_ascend.ensures.order c.least_from.ensures.value
     (is_code c.args.codes.now c.args.block c.loop-code.code c.requires.block (omega arith))
-    (λ p at. ap (λ (p : Placement). p.start) (same_Some p c.place-place.result (sym at ∙ c.place-place.ensures.value)))
+    (λ p at. ap (λ (p : Placement). p.start) (same_Some p (nth_place c.stretch-stretch.result c.loop-code.code)
+    (sym at ∙ c.stretch-stretch.ensures.stretch.each c.loop-code.code c.stretch-stretch.ensures.from c.stretch-stretch.ensures.to)))
     le (c.requires.block, clear.0) in
     omega arith)
     (sym c.is_better.ensures ∙ c.if-not-is_better.true)

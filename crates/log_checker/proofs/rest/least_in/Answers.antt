@@ -1,17 +1,17 @@
 use Rattle.std.proofs.Common.{sym}
 use Rattle.plan_rule.specs.Yards.{choices}
 use Rattle.plan_rule.proofs.CountLaws.{code_exists}
-use Rattle.log_checker.proofs.RestLaws.{fixed_exists, least_fixed, least_free}
+use Rattle.log_checker.proofs.RestLaws.{exact_exists, least_exact, least_free}
 use Rattle.log_checker.proofs.rest.least_in.Goals as goal
 
 pub own_cost-requires-clause-code : goal.own_cost-requires-clause-code
 own_cost-requires-clause-code c =
     code_exists c.args.codes.now c.args.block c.in-Some.code
-    (fixed_exists (choices c.args.codes.now) c.args.side.now c.args.block c.in-Some.code c.requires.side (sym c.in-Some.ensures))
+    (exact_exists (choices c.args.codes.now) c.args.side.now c.args.block c.in-Some.code c.requires.side (sym c.in-Some.ensures))
 
 pub returns-in-Some-clause-least : goal.returns-in-Some-clause-least
 returns-in-Some-clause-least c =
-    least_fixed c.args.codes.now c.args.side.now c.args.block c.in-Some.code c.own_cost.result c.requires.side (sym c.in-Some.ensures) c.own_cost.ensures.value
+    least_exact c.args.codes.now c.args.side.now c.args.block c.in-Some.code c.own_cost.result c.requires.side (sym c.in-Some.ensures) c.own_cost.ensures.value
 
 pub returns-in-None-clause-least : goal.returns-in-None-clause-least
 returns-in-None-clause-least c =

@@ -15,8 +15,8 @@ place-two-requires-clause-block c = block_exists _ _ c.requires.second.0
 pub place-two-requires-clause-code : goal.place-two-requires-clause-code
 place-two-requires-clause-code c = code_exists _ _ _ c.requires.second
 
-pub returns-then-not-may_meet : goal.returns-then-not-may_meet
-returns-then-not-may_meet c = clear_by_place _ _ _ _ _ _ _ c.place-one.ensures.value c.place-two.ensures.value c.if-not-may_meet.ensures.1
+pub returns-then-not-may_clash : goal.returns-then-not-may_clash
+returns-then-not-may_clash c = clear_by_place _ _ _ _ _ _ _ c.place-one.ensures.value c.place-two.ensures.value c.if-not-may_clash.ensures.1
 
 pub shape-first-requires-clause-block : goal.shape-first-requires-clause-block
 shape-first-requires-clause-block c = block_exists _ _ c.requires.first.0
@@ -34,4 +34,4 @@ returns c = clash_by_shapes _ _ _ _ _ _ _ c.shape-first.result.now c.shape-secon
       first_is = c.shape-first.ensures;
       second_is = c.shape-second.ensures;
     })
-    (c.if-not-may_meet.ensures.0 refl) c.corner.ensures.value c.corner-2.ensures.value c.apart.ensures.apart
+    (c.if-not-may_clash.ensures.0 refl) c.corner.ensures.value c.corner-2.ensures.value c.apart.ensures.apart

@@ -4,6 +4,7 @@ use Rattle.std.specs.String.{string_bytes}
 use Rattle.std.proofs.lemmas.Result.{IfOk-equal}
 use Rattle.code_table.specs.Placements.{placements}
 use Rattle.plan_rule.specs.Plans.{code_of}
+use Rattle.plan_text.specs.Texts.{tells_early, block_line}
 use Rattle.plan_rule.proofs.CountLaws.{block_exists, plan_code}
 use Rattle.plan_text.proofs.RowLaws.{read_at, row_is}
 use Rattle.plan_text.proofs.print.put_block.Goals as goal
@@ -34,6 +35,7 @@ returns c =
     let place : slice_get (placements c.args.codes.now c.args.block) (code_of c.args.plan.now c.args.block) ≡ Some c.place-place.result =
     subst (λ list. slice_get (placements c.args.codes.now c.args.block) (code_of list c.args.block) ≡ Some c.place-place.result) c.codes.ensures
     c.place-place.ensures.value in
+    let kind : c.tells_early.result ≡ tells_early c.args.codes.now = c.tells_early.ensures ∙ ap tells_early c.yard-yard.ensures.value in
     IfOk-equal c.put_row.result _ _ _ c.put_row.ensures
     (ap (λ t. string_bytes c.args.out.now ++ t)
-    (row_is c.args.codes.now c.args.plan.now c.args.block c.index-blocks-block.result c.place-place.result c.index-plates-place.result block place plate))
+    (ap (λ told. block_line told c.index-blocks-block.result.name c.index-blocks-block.result.due c.index-plates-place.result.name c.place-place.result) kind ∙ row_is c.args.codes.now c.args.plan.now c.args.block c.index-blocks-block.result c.place-place.result c.index-plates-place.result block place plate))

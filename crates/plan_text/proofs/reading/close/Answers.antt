@@ -1,6 +1,8 @@
-use Rattle.std.proofs.Common.{◌≡◌, false, true, eqb, Some, None, refl, sym, ◌∙◌, arith}
+use Rattle.std.proofs.Common.{◌≡◌, true, eqb, Some, None, refl, sym, ap, ◌∙◌, arith}
 use Rattle.std.proofs.lemmas.Bool.Decides.{nat_tests}
+use Rattle.std.proofs.lemmas.Result.{err_from_is_err_and}
 use Rattle.plan_text.specs.Rows.{total_in}
+use Rattle.plan_text.specs.Reading.{◌>>=◌, closed, lines}
 use Rattle.plan_text.proofs.TurnLaws.{total_turn, total_missing, closed_empty, closed_after}
 use Rattle.plan_text.proofs.reading.close.Goals as goal
 
@@ -12,11 +14,12 @@ returns-in_default-total_in c =
     let none : total_in c.in-Some.line.now ≡ None = sym c.in_default-total_in.ensures in
     sym (total_turn c.args.number c.args.is c.args.bytes.now c.in-Some.line.now c.in-Some.rest.now (sym c.in-Some.ensures.parts) ∙ rw none refl)
 
-pub returns-then-told-is : goal.returns-then-told-is
-returns-then-told-is c =
+pub returns-in_err-check_figure : goal.returns-in_err-check_figure
+returns-in_err-check_figure c =
     let found : total_in c.in-Some.line.now ≡ Some c.in-Some-total_in.told = sym c.in-Some-total_in.ensures in
-    let other : eqb c.in-Some-total_in.told c.args.is ≡ false = grind (arith, nat_tests) in
-    sym (total_turn c.args.number c.args.is c.args.bytes.now c.in-Some.line.now c.in-Some.rest.now (sym c.in-Some.ensures.parts) ∙ rw (found, other) refl)
+    let p = err_from_is_err_and c.from_residual.result c.from_residual.ensures.1 in
+    rw (p.1, p.2) (sym (total_turn c.args.number c.args.is c.args.bytes.now c.in-Some.line.now c.in-Some.rest.now (sym c.in-Some.ensures.parts)
+    ∙ rw found (ap (λ r. r >>= λ right. closed (lines c.in-Some.rest.now)) (sym c.in_err-check_figure.ensures))))
 
 pub returns-then-not-is_empty : goal.returns-then-not-is_empty
 returns-then-not-is_empty c =

@@ -3,6 +3,7 @@ use Rattle.std.specs.Prelude.{codes}
 use Rattle.std.specs.Str.{bytes_eq}
 use Rattle.std.proofs.lemmas.Bool.Decides.{nat_tests}
 use Rattle.std.proofs.lemmas.Result.{err_from_is_err_and}
+use Rattle.plan_text.specs.Texts.{head}
 use Rattle.plan_text.specs.Reading.{◌>>=◌, plan_of, planned, lines}
 use Rattle.plan_text.proofs.TurnLaws.{head_turn, no_head, closed_empty, closed_after, fails_first}
 use Rattle.plan_text.proofs.reading.plan_of.Goals as goal
@@ -25,13 +26,13 @@ returns-else-is_empty c =
 pub returns-then-ne : goal.returns-then-ne
 returns-then-ne c =
     let some : bytes_eq c.in-Some.first.now (codes "no plan") ≡ false = search rules in
-    let other : bytes_eq c.in-Some.first.now (codes "plan 1") ≡ false = search rules in
+    let other : bytes_eq c.in-Some.first.now (head c.args.codes.now) ≡ false = search rules in
     head_turn c.args.codes.now c.args.bytes.now c.in-Some.first.now c.in-Some.rest.now (sym c.in-Some.ensures.parts) ∙ rw (some, other) refl
 
 pub returns-in_err-plan : goal.returns-in_err-plan
 returns-in_err-plan c =
     let some : bytes_eq c.in-Some.first.now (codes "no plan") ≡ false = search rules in
-    let same : bytes_eq c.in-Some.first.now (codes "plan 1") ≡ true = search rules in
+    let same : bytes_eq c.in-Some.first.now (head c.args.codes.now) ≡ true = search rules in
     let is : plan_of c.args.codes.now c.args.bytes.now ≡ (planned c.args.codes.now (lines c.in-Some.rest.now) >>= λ plan. Ok (Some plan)) =
     head_turn c.args.codes.now c.args.bytes.now c.in-Some.first.now c.in-Some.rest.now (sym c.in-Some.ensures.parts) ∙ rw (some, same) refl in
     let p = err_from_is_err_and c.from_residual.result c.from_residual.ensures.1 in
@@ -40,6 +41,6 @@ returns-in_err-plan c =
 pub returns : goal.returns
 returns c =
     let some : bytes_eq c.in-Some.first.now (codes "no plan") ≡ false = search rules in
-    let same : bytes_eq c.in-Some.first.now (codes "plan 1") ≡ true = search rules in
+    let same : bytes_eq c.in-Some.first.now (head c.args.codes.now) ≡ true = search rules in
     head_turn c.args.codes.now c.args.bytes.now c.in-Some.first.now c.in-Some.rest.now (sym c.in-Some.ensures.parts)
     ∙ rw (some, same) (ap (λ r. r >>= λ (plan : List ℕ). Ok (Some plan)) c.in_ok-plan.ensures)

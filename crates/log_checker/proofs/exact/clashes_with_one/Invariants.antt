@@ -1,0 +1,8 @@
+use Rattle.std.proofs.Common.{ℕ, ◌<◌, get_or}
+use Rattle.log_checker.specs.declared.exact.Exact.{Exact}
+use Rattle.log_checker.specs.ExactBlocks.{ClashesAt}
+use Rattle.log_checker.proofs.exact.clashes_with_one.Given as goal
+
+-- the placement clashes with none of the first blocks
+abbrev pub invariant-loop-f : goal.invariant-loop-f
+invariant-loop-f l = (k : ℕ) (d : Exact) → k < l.f-index → ClashesAt l.codes (get_or l.exacts k d) l.block l.place → ⊥

@@ -1,0 +1,86 @@
+//! The blocks that a side fixes to one code each.
+ghost use Rattle.std.specs.Prelude.{◌≡◌, ◌<◌, ◌≤◌, ◌↔◌, All, IsTrue, length};
+ghost use Rattle.plan_rule.specs.Boxes.{IsBox};
+ghost use Rattle.plan_rule.specs.Yards.{choices};
+ghost use Rattle.log_checker.specs.ExactBlocks.{AreExact, IsStanding, ClashesAt, ClashesWithOne};
+
+use arrayvec::ArrayVec;
+use code_table::{Codes, Placement};
+use plan_rule::{PlanBox, corner, may_clash};
+use shape_exact::apart;
+
+/// A block that a side fixes to one code, and the placement of that code.
+#[derive(Clone, Copy)]
+pub(crate) struct Exact {
+    pub block: u8,
+    pub place: Placement,
+}
+
+impl Default for Exact {
+    fn default() -> Exact {
+        Exact {
+            block: 0,
+            place: Placement {
+                start: 0,
+                end: 0,
+                plate: 0,
+                turn: 0,
+                y: 0,
+                x: 0,
+            },
+        }
+    }
+}
+
+/// The blocks that the side fixes to one code each, and where they stand.
+pub(crate) fn exact_of(codes: &Codes, side: &PlanBox) -> ArrayVec<Exact, 32>
+    requires { IsBox (choices codes.now) side.now }
+    ensures exacts { AreExact codes.now side.now result.items }
+    ensures standing { All (IsStanding codes.now) result.items }
+{
+    let _yard = codes.yard();
+    let mut list = ArrayVec::new();
+    for l in side.literals() {
+        if l.is_exact(l.block, l.lo) {
+            list.push(Exact {
+                block: l.block,
+                place: codes.place(l.block, l.lo),
+            });
+        }
+    }
+    list
+}
+
+/// Whether an exact block clashes with another block at a placement.
+fn clashes(codes: &Codes, one: Exact, block: u8, place: Placement) -> bool
+    requires one { IsStanding codes.now one }
+    requires block { block < length codes.now.blocks }
+    requires turn { place.turn < 4 }
+    requires x { place.x ≤ 400 }
+    requires y { place.y ≤ 400 }
+    ensures { IsTrue result ↔ ClashesAt codes.now one block place }
+{
+    if !may_clash(one.place, place) {
+        return false;
+    }
+    let first = codes.shape(one.block, one.place.turn);
+    let second = codes.shape(block, place.turn);
+    !apart(first, corner(one.place), second, corner(place))
+}
+
+/// Whether one of the exact blocks clashes with another block at a placement.
+pub(crate) fn clashes_with_one(codes: &Codes, exacts: &[Exact], block: u8, place: Placement) -> bool
+    requires standing { All (IsStanding codes.now) exacts.now }
+    requires block { block < length codes.now.blocks }
+    requires turn { place.turn < 4 }
+    requires x { place.x ≤ 400 }
+    requires y { place.y ≤ 400 }
+    ensures { IsTrue result ↔ ClashesWithOne codes.now exacts.now block place }
+{
+    for f in exacts {
+        if clashes(codes, *f, block, place) {
+            return true;
+        }
+    }
+    false
+}

@@ -1,0 +1,76 @@
+//! What a run asks of its desk, and where a desk takes only a part of what is said.
+
+use super::watched::{Call, WatchedDesk};
+use super::yards::*;
+use crate::run;
+use std::alloc::Global;
+use std::test::Fail;
+use yard_io::{OpenGate, QuietDesk};
+
+/// Bytes that no reader of TOML takes: three pieces of eight bytes.
+const CUT_OFF: &str = "version = 1\ndays = ";
+
+/// A desk with this file `y`, in pieces of eight bytes, that says so many bytes and then fails.
+fn watched(alloc: Global, parts: &[&str], left: usize) -> Option<WatchedDesk> {
+    let mut yard = Vec::new(alloc);
+    for part in parts {
+        yard.extend_from_slice(part.as_bytes()).ok()?;
+    }
+    let mut quiet = QuietDesk::new(alloc, 8).ok()?;
+    quiet.put("y", yard.as_slice()).ok()?;
+    Some(WatchedDesk::new(alloc, quiet, left))
+}
+
+#[test]
+fn a_desk_that_takes_no_more_is_a_write_fault(rt: HostRuntime) -> Result<(), Fail> {
+    let square: &[&str] = &[TEN_DAYS, PLATE_4X3, A, SQUARE_2, TWO_DAYS_DUE_1];
+    let cases: [(&[&str], &[&str], usize, &str); 6] = [
+        (&["plan", "y"], square, 0, ""),
+        (&["plan", "y"], square, 4, "plan"),
+        (&["plan", "y"], &[CUT_OFF], 0, ""),
+        (&["plan", "y"], &[CUT_OFF], 4, "refu"),
+        (&[], square, 0, ""),
+        (&[], square, 4, "usag"),
+    ];
+    for (words, parts, left, said) in cases {
+        let Some(mut desk) = watched(rt.alloc(), parts, left) else {
+            assert!(rt; false, "the desk has its file");
+            return Ok(());
+        };
+        let ended = run(&rt, rt.alloc(), words, &mut desk, &OpenGate);
+        assert_eq!(rt; ended.0, 5, "after {said}");
+        assert_eq!(rt; desk.said(), said.as_bytes(), "after {said}");
+        assert_eq!(rt; desk.calls().last(), Some(&Call::Say), "after {said}");
+    }
+    Ok(())
+}
+
+#[test]
+fn one_length_then_reads_then_what_is_said(rt: HostRuntime) -> Result<(), Fail> {
+    let cases: [(&[&str], u8, &[Call]); 2] = [
+        (
+            &["plan", "y"],
+            1,
+            &[
+                Call::Length,
+                Call::Read,
+                Call::Read,
+                Call::Read,
+                Call::Say,
+                Call::Say,
+                Call::Say,
+            ],
+        ),
+        (&["plan"], 2, &[Call::Say, Call::Say, Call::Say]),
+    ];
+    for (words, status, calls) in cases {
+        let Some(mut desk) = watched(rt.alloc(), &[CUT_OFF], 1_000) else {
+            assert!(rt; false, "the desk has its file");
+            return Ok(());
+        };
+        let ended = run(&rt, rt.alloc(), words, &mut desk, &OpenGate);
+        assert_eq!(rt; ended.0, status);
+        assert_eq!(rt; desk.calls(), calls, "with status {status}");
+    }
+    Ok(())
+}
