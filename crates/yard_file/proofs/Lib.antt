@@ -1,4 +1,6 @@
 pub mod DocumentLaws
 pub mod FootprintLaws
-pub mod KeyLaws
+pub mod HeldLaws
 pub mod ItemLaws
+pub mod KeyLaws
+pub mod WordLaws

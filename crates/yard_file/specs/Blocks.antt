@@ -1,26 +1,29 @@
 -- The blocks of a yard file.
-use Rattle.std.specs.Prelude.{ℕ, List, [], ◌∷◌, ◌++◌, codes, Option, Some}
-use Rattle.toml.specs.Data.{Data, Items, no_items, item, Members, get_member, as_table}
+use Rattle.std.specs.Prelude.{ℕ, ◌+◌, List, [], ◌∷◌, ◌++◌, Result, Ok}
+use Rattle.toml.specs.Data.{Data, Items, no_items, item, Members, as_table}
 use Rattle.shape_exact.specs.Yards.{block_names}
 use Rattle.shape_exact.specs.declared.block.Block.{Block}
-use Rattle.yard_file.specs.Values.{◌>>=◌, given, number_in, optional_in}
-use Rattle.yard_file.specs.Keys.{has_known_keys}
+use Rattle.yard_file.specs.Values.{◌>>=◌, of_kind, value_in, number_in, optional_in}
+use Rattle.yard_file.specs.Keys.{known_keys}
 use Rattle.yard_file.specs.Names.{name_in}
 use Rattle.yard_file.specs.Footprints.{shape_in}
 use Rattle.yard_file.specs.Turns.{turns_in}
-use Rattle.yard_file.specs.declared.keys.Section.TheVariants as sections
+use Rattle.yard_file.specs.declared.place.At.TheVariants as places
+use Rattle.yard_file.specs.declared.place.Key.TheVariants as keys
+use Rattle.yard_file.specs.declared.fault.YardFault.{YardFault}
 
--- the block that the keys of a table give
-unfoldable pub block_fields : List (List ℕ) → Members → Option Block
-block_fields earlier ms = do
-  name ← name_in earlier (get_member (codes "name") ms)
-  shape ← shape_in (get_member (codes "shape") ms)
-  turns ← turns_in (get_member (codes "turns") ms)
-  duration ← number_in 1 400 (get_member (codes "duration") ms)
-  release ← optional_in 0 399 0 (get_member (codes "release") ms)
-  due ← number_in 0 399 (get_member (codes "due") ms)
-  weight ← optional_in 0 1000 1 (get_member (codes "weight") ms)
-  Some (record {
+-- the rules of block i after blocks with these names, in their order, and the block where none is broken
+unfoldable pub block_rules : ℕ → List (List ℕ) → Members → Result Block YardFault
+block_rules i earlier ms = do
+  known ← known_keys (places.Block i) ms
+  name ← name_in (places.Block i) earlier (value_in keys.Name ms)
+  shape ← shape_in i (value_in keys.Shape ms)
+  turns ← turns_in i (value_in keys.Turns ms)
+  duration ← number_in (places.Block i) keys.Duration 1 400 ms
+  release ← optional_in (places.Block i) keys.Release 0 399 0 ms
+  due ← number_in (places.Block i) keys.Due 0 399 ms
+  weight ← optional_in (places.Block i) keys.Weight 0 1000 1 ms
+  Ok (record {
     name = name;
     shape = shape;
     turns = turns;
@@ -28,17 +31,15 @@ block_fields earlier ms = do
     release = release;
     due = due;
     weight = weight;
+    early = 0;
   })
 
--- the block of a table with known keys alone
-abbrev pub table_block : List (List ℕ) → Members → Option Block
-table_block earlier ms = given (has_known_keys sections.Block ms) (block_fields earlier ms)
+-- block i of a value, which has to be a table
+abbrev pub block_of : ℕ → List (List ℕ) → Data → Result Block YardFault
+block_of i earlier d = of_kind places.Top keys.Block (as_table d) >>= block_rules i earlier
 
--- the block of a value, which has to be a table
-abbrev pub block_of : List (List ℕ) → Data → Option Block
-block_of earlier d = as_table d >>= table_block earlier
-
--- the blocks of the values, after those done
-abbrev pub blocks_from : List Block → Items → Option (List Block)
-blocks_from done no_items = Some done
-blocks_from done (item d ds) = block_of (block_names done) d >>= (λ block. blocks_from (done ++ block ∷ []) ds)
+-- the blocks of the tables from table i on, after those done
+abbrev pub blocks_from : ℕ → List Block → Items → Result (List Block) YardFault
+blocks_from i done no_items = Ok done
+blocks_from i done (item d ds) =
+    block_of i (block_names done) d >>= (λ block. blocks_from (i + 1) (done ++ block ∷ []) ds)

@@ -1,11 +1,14 @@
 pub mod Arrays
 pub mod Blocks
 pub mod Closed
+pub mod Distinct
 pub mod Documents
 pub mod Footprints
+pub mod Held
 pub mod Keys
 pub mod Lines
 pub mod Names
+pub mod Places
 pub mod Plates
 pub mod Reads
 pub mod Sizes

@@ -1,49 +1,53 @@
--- What the bytes of a yard file are read as.
-use Rattle.std.specs.Prelude.{◌≡◌, ℕ, List, [], length, codes, Option, Some, None, Result, Ok, Err, if◌then◌else◌, nat_lt}
-use Rattle.toml.specs.Data.{Members, get_member}
+-- What the bytes of a yard file are read as: the first broken rule, or the yard where none is broken.
+use Rattle.std.specs.Prelude.{◌≡◌, ℕ, List, [], length, Option, Some, None, Result, Ok, Err, ℤ, pos, negsuc, if◌then◌else◌, nat_lt, ◌==◌}
+use Rattle.toml.specs.Data.{Members}
 use Rattle.shape_exact.specs.Yards.{PlainYard}
-use Rattle.yard_file.specs.Values.{◌>>=◌, given, number_in}
-use Rattle.yard_file.specs.Keys.{has_known_keys}
-use Rattle.yard_file.specs.Arrays.{array_in}
+use Rattle.yard_file.specs.Values.{◌>>=◌, value_in, integer_of, number_in}
+use Rattle.yard_file.specs.Keys.{known_keys}
+use Rattle.yard_file.specs.Arrays.{plate_tables, block_tables}
 use Rattle.yard_file.specs.Plates.{plates_from}
 use Rattle.yard_file.specs.Blocks.{blocks_from}
 use Rattle.yard_file.specs.Sizes.{first_too_many}
 use Rattle.yard_file.specs.Documents.{document}
-use Rattle.yard_file.specs.declared.keys.Section.TheVariants as sections
+use Rattle.yard_file.specs.declared.place.At.TheVariants as places
+use Rattle.yard_file.specs.declared.place.Key.TheVariants as keys
 use Rattle.yard_file.specs.declared.fault.YardFault.{YardFault}
 use Rattle.yard_file.specs.declared.fault.YardFault.TheVariants as faults
 
--- the yard that the keys of the top table give
-unfoldable pub yard_fields : Members → Option PlainYard
-yard_fields ms = do
-  version ← number_in 1 1 (get_member (codes "version") ms)
-  days ← number_in 1 400 (get_member (codes "days") ms)
-  plate_items ← array_in 8 (get_member (codes "plate") ms)
-  block_items ← array_in 32 (get_member (codes "block") ms)
-  plates ← plates_from days [] plate_items
-  blocks ← blocks_from [] block_items
-  Some (record { days = days; plates = plates; blocks = blocks })
+-- the version of the file: Missing, Kind, Version
+abbrev pub known_version : ℤ → Result ℤ YardFault
+known_version (pos n) = if n == 1 then Ok (pos n) else Err (faults.Version (pos n))
+known_version (negsuc n) = Err (faults.Version (negsuc n))
 
--- the yard of a document with known keys alone; None where a rule is broken
-abbrev pub table_yard : Members → Option PlainYard
-table_yard ms = given (has_known_keys sections.Top ms) (yard_fields ms)
+unfoldable pub version_in : Members → Result ℤ YardFault
+version_in ms = integer_of places.Top keys.Version (value_in keys.Version ms) >>= known_version
 
--- the yard, where there is no fault
+-- the yard, unless some block has too many placements: TooManyPlacements
 abbrev pub unless : Option YardFault → PlainYard → Result PlainYard YardFault
 unless None yard = Ok yard
 unless (Some fault) yard = Err fault
 
--- the yard, where no rule is broken and no block has too many placements
-abbrev pub built : Option PlainYard → Result PlainYard YardFault
-built None = Err faults.NotBuilt
-built (Some yard) = unless (first_too_many yard) yard
+abbrev pub sized : PlainYard → Result PlainYard YardFault
+sized yard = unless (first_too_many yard) yard
 
--- the yard of a document, where there is one
+-- the rules of a document, in their order, and its yard where none is broken
+unfoldable pub rules : Members → Result PlainYard YardFault
+rules ms = do
+  version ← version_in ms
+  known ← known_keys places.Top ms
+  days ← number_in places.Top keys.Days 1 400 ms
+  plate_tables ← plate_tables ms
+  block_tables ← block_tables ms
+  plates ← plates_from days 0 [] plate_tables
+  blocks ← blocks_from 0 [] block_tables
+  sized (record { days = days; plates = plates; blocks = blocks; fixed = [] })
+
+-- the yard of a document, where there is one: NotToml
 abbrev pub document_yard : Option Members → Result PlainYard YardFault
 document_yard None = Err faults.NotToml
-document_yard (Some ms) = built (table_yard ms)
+document_yard (Some ms) = rules ms
 
--- the yard of a file, or why it is refused
+-- the yard of a file, or the first rule that it breaks: TooLong comes before all others
 unfoldable pub yard_of : List ℕ → Result PlainYard YardFault
 yard_of bytes = if nat_lt 1048576 (length bytes) then Err faults.TooLong else document_yard (document bytes)
 

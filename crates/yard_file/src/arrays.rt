@@ -1,19 +1,79 @@
 //! Reads arrays of tables.
-ghost use Rattle.std.specs.Prelude.{◌≡◌, ◌≤◌, IfSome, length, option_map};
-ghost use Rattle.toml.specs.View.{view, items_view};
-ghost use Rattle.yard_file.specs.Arrays.{few, array_in};
+ghost use Rattle.std.specs.Prelude.{◌≡◌, ◌≤◌, IfOk, length};
+ghost use Rattle.toml.specs.View.{items_view, table_view};
+ghost use Rattle.yard_file.specs.Arrays.{all_tables, block_tables, plate_tables, tables_of, told};
+ghost use Rattle.yard_file.specs.Values.{value_in, viewed};
 
-use toml::Value;
+use crate::value::value_at;
+use crate::{At, Key, YardFault};
+use toml::{Table, Value};
 
-/// The items of an array, at least one and at most so many.
-#[tactic(auto, using(crate::proofs::ItemLaws::count_items))]
-pub fn array_of(value: Option<&Value>, most: usize) -> Option<&[Value]>
-    ensures value { option_map (λ s. items_view s.now) result ≡ array_in most (option_map (λ v. view v.now) value.entry) }
-    ensures few { IfSome result (λ s. length s.now ≤ most) }
+/// Whether every item is a table.
+fn all_tables(items: &[Value]) -> bool
+    ensures { result ≡ all_tables (items_view items.now) }
 {
-    let items = value?.as_array()?.as_slice();
-    if items.is_empty() || items.len() > most {
-        return None;
+    for value in items {
+        if value.as_table().is_none() {
+            return false;
+        }
     }
-    Some(items)
+    true
+}
+
+/// A count as a refusal tells it.
+fn told(count: usize) -> u32
+    ensures { result ≡ told count }
+{
+    match u32::try_from(count) {
+        Ok(n) => n,
+        Err(_) => u32::MAX,
+    }
+}
+
+/// The tables of an array under a key of the top table, none where it is absent.
+fn tables_at(table: &Table, key: Key) -> Result<&[Value], YardFault>
+    ensures { viewed (λ s. items_view s.now) result ≡ tables_of key (value_in key (table_view table.now)) }
+{
+    let Some(value) = value_at(table, key) else {
+        return Ok(&[]);
+    };
+    let Some(items) = value.as_array() else {
+        return Err(YardFault::Kind(At::Top, key));
+    };
+    if !all_tables(items.as_slice()) {
+        return Err(YardFault::Kind(At::Top, key));
+    }
+    Ok(items.as_slice())
+}
+
+/// The tables of the plates, 1 to 8.
+#[tactic(auto, unfolding(crate::specs::Arrays::plate_tables), using(crate::proofs::ItemLaws::count_items))]
+pub fn plate_tables(table: &Table) -> Result<&[Value], YardFault>
+    ensures value { viewed (λ s. items_view s.now) result ≡ plate_tables (table_view table.now) }
+    ensures few { IfOk result (λ s. length s.now ≤ 8) }
+{
+    let items = tables_at(table, Key::Plate)?;
+    if items.is_empty() {
+        return Err(YardFault::NoPlate);
+    }
+    if items.len() > 8 {
+        return Err(YardFault::TooManyPlates(told(items.len())));
+    }
+    Ok(items)
+}
+
+/// The tables of the blocks, 1 to 32.
+#[tactic(auto, unfolding(crate::specs::Arrays::block_tables), using(crate::proofs::ItemLaws::count_items))]
+pub fn block_tables(table: &Table) -> Result<&[Value], YardFault>
+    ensures value { viewed (λ s. items_view s.now) result ≡ block_tables (table_view table.now) }
+    ensures few { IfOk result (λ s. length s.now ≤ 32) }
+{
+    let items = tables_at(table, Key::Block)?;
+    if items.is_empty() {
+        return Err(YardFault::NoBlock);
+    }
+    if items.len() > 32 {
+        return Err(YardFault::TooManyBlocks(told(items.len())));
+    }
+    Ok(items)
 }

@@ -1,32 +1,36 @@
 //! Reads blocks.
-ghost use Rattle.std.specs.Prelude.{◌≡◌, ◌≤◌, [], length, IfSome, option_map, false};
+ghost use Rattle.std.specs.Prelude.{◌≡◌, ◌≤◌, [], length, IfOk, false};
 ghost use Rattle.toml.specs.View.{view, items_view, table_view};
 ghost use Rattle.shape_exact.specs.Yards.{IsBlock, has_name, block_names};
-ghost use Rattle.yard_file.specs.Blocks.{block_fields, block_of, blocks_from};
+ghost use Rattle.yard_file.specs.Values.{viewed};
+ghost use Rattle.yard_file.specs.Blocks.{block_rules, block_of, blocks_from};
 
 use crate::footprints::shape_of;
-use crate::keys::{Section, has_known_keys};
+use crate::keys::known_keys;
 use crate::names::block_name;
 use crate::turns::turns_of;
-use crate::value::{number_of, optional_of, value_at};
+use crate::value::{number_at, optional_at, value_at};
+use crate::{At, Key, YardFault};
 use shape_exact::{Block, Yard};
 use toml::{Table, Value};
 
-/// The block that the keys of a table give, after others.
-#[tactic(auto, unfolding(crate::specs::Blocks::block_fields))]
-fn block_fields(table: &Table, earlier: &[Block]) -> Option<Block>
-    ensures value { result ≡ block_fields (block_names earlier.now) (table_view table.now) }
-    ensures limits { IfSome result IsBlock }
-    ensures new { IfSome result (λ b. has_name (block_names earlier.now) b.name ≡ false) }
+/// Block `i` of a table, after others.
+#[tactic(auto, unfolding(crate::specs::Blocks::block_rules))]
+fn table_block(table: &Table, i: u8, earlier: &[Block]) -> Result<Block, YardFault>
+    ensures value { result ≡ block_rules i (block_names earlier.now) (table_view table.now) }
+    ensures limits { IfOk result IsBlock }
+    ensures new { IfOk result (λ b. has_name (block_names earlier.now) b.name ≡ false) }
 {
-    let name = block_name(value_at(table, "name"), earlier)?;
-    let shape = shape_of(value_at(table, "shape"))?;
-    let turns = turns_of(value_at(table, "turns"))?;
-    let duration = number_of(value_at(table, "duration"), 1, 400)?;
-    let release = optional_of(value_at(table, "release"), 0, 399, 0)?;
-    let due = number_of(value_at(table, "due"), 0, 399)?;
-    let weight = optional_of(value_at(table, "weight"), 0, 1000, 1)?;
-    Some(Block {
+    let at = At::Block(i);
+    known_keys(table, at)?;
+    let name = block_name(value_at(table, Key::Name), at, earlier)?;
+    let shape = shape_of(value_at(table, Key::Shape), i)?;
+    let turns = turns_of(value_at(table, Key::Turns), i)?;
+    let duration = number_at(table, at, Key::Duration, 1, 400)?;
+    let release = optional_at(table, at, Key::Release, 0, 399, 0)?;
+    let due = number_at(table, at, Key::Due, 0, 399)?;
+    let weight = optional_at(table, at, Key::Weight, 0, 1000, 1)?;
+    Ok(Block {
         name,
         shape,
         turns,
@@ -34,33 +38,36 @@ fn block_fields(table: &Table, earlier: &[Block]) -> Option<Block>
         release,
         due,
         weight,
+        early: 0,
     })
 }
 
-/// The block of a value, after others.
-fn block_of(value: &Value, earlier: &[Block]) -> Option<Block>
-    ensures value { result ≡ block_of (block_names earlier.now) (view value.now) }
-    ensures limits { IfSome result IsBlock }
-    ensures new { IfSome result (λ b. has_name (block_names earlier.now) b.name ≡ false) }
+/// Block `i` of a value, after others.
+fn block_of(value: &Value, i: u8, earlier: &[Block]) -> Result<Block, YardFault>
+    ensures value { result ≡ block_of i (block_names earlier.now) (view value.now) }
+    ensures limits { IfOk result IsBlock }
+    ensures new { IfOk result (λ b. has_name (block_names earlier.now) b.name ≡ false) }
 {
-    let table = value.as_table()?;
-    if !has_known_keys(table, Section::Block) {
-        return None;
+    match value.as_table() {
+        Some(table) => table_block(table, i, earlier),
+        None => Err(YardFault::Kind(At::Top, Key::Block)),
     }
-    block_fields(table, earlier)
 }
 
 /// The yard with the blocks of the values.
-pub fn add_blocks(mut yard: Yard, items: &[Value]) -> Option<Yard>
+pub fn add_blocks(mut yard: Yard, items: &[Value]) -> Result<Yard, YardFault>
     requires few { length items.now ≤ 32 }
     requires none { yard.blocks ≡ [] }
-    ensures blocks { option_map (λ y. y.blocks) result ≡ blocks_from [] (items_view items.now) }
-    ensures days { IfSome result (λ y. y.days ≡ yard.days) }
-    ensures plates { IfSome result (λ y. y.plates ≡ yard.plates) }
+    ensures blocks { viewed (λ y. y.blocks) result ≡ blocks_from 0 [] (items_view items.now) }
+    ensures days { IfOk result (λ y. y.days ≡ yard.days) }
+    ensures plates { IfOk result (λ y. y.plates ≡ yard.plates) }
+    ensures fixed { IfOk result (λ y. y.fixed ≡ yard.fixed) }
 {
+    let mut i = 0u8;
     for value in items {
-        let block = block_of(value, yard.blocks())?;
+        let block = block_of(value, i, yard.blocks())?;
         yard.add_block(block);
+        i += 1;
     }
-    Some(yard)
+    Ok(yard)
 }

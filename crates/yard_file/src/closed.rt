@@ -1,46 +1,40 @@
 //! Reads closed days.
-ghost use Rattle.std.specs.Prelude.{◌≡◌, ◌≤◌, [], IfSome, option_map, true};
+ghost use Rattle.std.specs.Prelude.{◌≡◌, ◌≤◌, IfOk, option_map, true};
 ghost use Rattle.toml.specs.View.{view, items_view};
 ghost use Rattle.shape_exact.specs.Days.{are_days};
-ghost use Rattle.yard_file.specs.Closed.{day_of, days_from, closed_in};
+ghost use Rattle.yard_file.specs.Closed.{closed_in, closed_items};
 
-use crate::value::within;
+use crate::distinct::{all_integers, read_distinct};
+use crate::{At, Key, YardFault};
 use shape_exact::DayList;
 use toml::Value;
 
-/// The day below the number of days.
-fn day_of(days: u16, value: &Value) -> Option<u16>
-    requires { 1 ≤ days }
-    ensures { result ≡ day_of days (view value.now) }
-{
-    within(0, days - 1, value.as_integer()?)
-}
-
 /// The days of an array, each below the number of days and none twice.
-fn read_days(days: u16, items: &[Value]) -> Option<DayList>
-    requires { (1 ≤ days) × (days ≤ 400) }
-    ensures value { result ≡ days_from days [] (items_view items.now) }
-    ensures below { IfSome result (λ list. are_days 0 days list ≡ true) }
+fn read_days(items: &[Value], days: u16, plate: u8) -> Result<DayList, YardFault>
+    requires { days ≤ 400 }
+    ensures value { result ≡ closed_items days plate (items_view items.now) }
+    ensures below { IfOk result (λ list. are_days 0 days list ≡ true) }
 {
-    let mut list = DayList::empty();
-    for value in items {
-        let day = day_of(days, value)?;
-        if list.has(day) {
-            return None;
-        }
-        list.put(day);
+    if !all_integers(items) {
+        return Err(YardFault::Kind(At::Plate(plate), Key::Closed));
     }
-    Some(list)
+    match read_distinct(days, items) {
+        Ok(list) => Ok(list),
+        Err(fault) => Err(YardFault::Day(plate, fault)),
+    }
 }
 
 /// The closed days of a plate: none where there is no value.
-pub fn closed_of(value: Option<&Value>, days: u16) -> Option<DayList>
-    requires { (1 ≤ days) × (days ≤ 400) }
-    ensures value { result ≡ closed_in days (option_map (λ v. view v.now) value.entry) }
-    ensures below { IfSome result (λ list. are_days 0 days list ≡ true) }
+pub fn closed_of(value: Option<&Value>, days: u16, plate: u8) -> Result<DayList, YardFault>
+    requires { days ≤ 400 }
+    ensures value { result ≡ closed_in days plate (option_map (λ v. view v.now) value.entry) }
+    ensures below { IfOk result (λ list. are_days 0 days list ≡ true) }
 {
-    match value {
-        None => Some(DayList::empty()),
-        Some(value) => read_days(days, value.as_array()?.as_slice()),
+    let Some(value) = value else {
+        return Ok(DayList::empty());
+    };
+    match value.as_array() {
+        Some(items) => read_days(items.as_slice(), days, plate),
+        None => Err(YardFault::Kind(At::Plate(plate), Key::Closed)),
     }
 }

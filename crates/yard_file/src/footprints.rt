@@ -1,78 +1,107 @@
 //! Reads footprints.
-ghost use Rattle.std.specs.Prelude.{◌≡◌, ◌≤◌, [], length, IfSome, option_map};
+ghost use Rattle.std.specs.Prelude.{◌≡◌, ◌≤◌, [], length, option_map};
 ghost use Rattle.toml.specs.View.{view, items_view};
-ghost use Rattle.yard_file.specs.Footprints.{coordinate, point_at, point_of, points_from, footprint, items_shape, shape_in};
+ghost use Rattle.shape_exact.specs.Reading.{shape_of};
+ghost use Rattle.yard_file.specs.Footprints.{all_points, point_of, points_of, shape_in, shape_items};
+ghost use Rattle.yard_file.specs.Held.{held, held_at, held_from};
 
+use crate::{At, Key, YardFault};
 use arrayvec::ArrayVec;
-use shape_exact::{Point, Shape};
+use shape_exact::{Point, Shape, ShapeFault};
 use toml::Value;
 
-/// The coordinate of an integer.
-fn coordinate(number: i64) -> Option<i32>
-    ensures { result ≡ coordinate number }
+/// The coordinate of an integer. One that a point cannot hold is out of range, as is the greatest that it can hold.
+fn held(number: i64) -> i32
+    ensures { result ≡ held number }
 {
     match i32::try_from(number) {
-        Ok(n) => Some(n),
-        Err(_) => None,
+        Ok(n) => n,
+        Err(_) => i32::MAX,
     }
 }
 
-/// The point of two integers.
-fn point_at(a: &Value, b: &Value) -> Option<Point>
-    ensures { result ≡ point_at (view a.now) (view b.now) }
-{
-    let x = coordinate(a.as_integer()?)?;
-    let y = coordinate(b.as_integer()?)?;
-    Some(Point { x, y })
-}
-
 /// The point of an array of two integers.
-fn point_of(value: &Value) -> Option<Point>
-    ensures { result ≡ point_of (view value.now) }
+fn point_of(value: &Value) -> Option<(i64, i64)>
+    ensures { option_map (λ p. record { x = p.0; y = p.1 }) result ≡ point_of (view value.now) }
 {
     let pair = value.as_array()?;
     if pair.len() != 2 {
         return None;
     }
-    point_at(&pair[0], &pair[1])
+    let x = pair[0].as_integer()?;
+    let y = pair[1].as_integer()?;
+    Some((x, y))
 }
 
-/// The points of an array.
-fn read_points(items: &[Value]) -> Option<ArrayVec<Point, 16>>
+/// Whether every item is a point.
+fn all_points(items: &[Value]) -> bool
+    ensures { result ≡ all_points (items_view items.now) }
+{
+    for value in items {
+        if point_of(value).is_none() {
+            return false;
+        }
+    }
+    true
+}
+
+/// The point of a value, as it is held.
+fn held_point(value: &Value) -> Point
+    ensures { result ≡ held_at (view value.now) }
+{
+    match point_of(value) {
+        Some((x, y)) => Point {
+            x: held(x),
+            y: held(y),
+        },
+        None => Point { x: 0, y: 0 },
+    }
+}
+
+/// The points of an array, as they are held.
+fn held_points(items: &[Value]) -> ArrayVec<Point, 16>
     requires { length items.now ≤ 16 }
-    ensures { option_map (λ a. a.items) result ≡ points_from [] (items_view items.now) }
+    ensures { result.items ≡ held_from [] (items_view items.now) }
 {
     let mut points = ArrayVec::new();
     for value in items {
-        points.push(point_of(value)?);
+        points.push(held_point(value));
     }
-    Some(points)
+    points
 }
 
-/// The footprint of some points.
-fn footprint(points: &[Point]) -> Option<Shape>
-    ensures { result ≡ footprint points.now }
-{
-    match Shape::read(points) {
-        Ok(shape) => Some(shape),
-        Err(_) => None,
-    }
-}
-
-/// The footprint of the points of an array.
-#[tactic(auto, using(crate::proofs::FootprintLaws::many_items))]
-fn read_shape(items: &[Value]) -> Option<Shape>
-    ensures { result ≡ items_shape (items_view items.now) }
+/// The footprint of an array of points.
+fn footprint(items: &[Value]) -> Result<Shape, ShapeFault>
+    ensures { result ≡ shape_of (points_of (items_view items.now)) }
 {
     if items.len() > 16 {
-        return None;
+        return Err(ShapeFault::TooMany);
     }
-    footprint(read_points(items)?.as_slice())
+    Shape::read(held_points(items).as_slice())
+}
+
+/// The footprint of an array.
+fn read_shape(items: &[Value], block: u8) -> Result<Shape, YardFault>
+    ensures { result ≡ shape_items block (items_view items.now) }
+{
+    if !all_points(items) {
+        return Err(YardFault::Kind(At::Block(block), Key::Shape));
+    }
+    match footprint(items) {
+        Ok(shape) => Ok(shape),
+        Err(fault) => Err(YardFault::Shape(block, fault)),
+    }
 }
 
 /// The footprint of a block.
-pub fn shape_of(value: Option<&Value>) -> Option<Shape>
-    ensures { result ≡ shape_in (option_map (λ v. view v.now) value.entry) }
+pub fn shape_of(value: Option<&Value>, block: u8) -> Result<Shape, YardFault>
+    ensures { result ≡ shape_in block (option_map (λ v. view v.now) value.entry) }
 {
-    read_shape(value?.as_array()?.as_slice())
+    let Some(value) = value else {
+        return Err(YardFault::Missing(At::Block(block), Key::Shape));
+    };
+    match value.as_array() {
+        Some(items) => read_shape(items.as_slice(), block),
+        None => Err(YardFault::Kind(At::Block(block), Key::Shape)),
+    }
 }

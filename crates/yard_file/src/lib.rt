@@ -7,11 +7,13 @@
 mod arrays;
 mod blocks;
 mod closed;
+mod distinct;
 mod document;
 mod fault;
 mod footprints;
 mod keys;
 mod names;
+mod place;
 mod plates;
 mod reader;
 mod sizes;
@@ -20,5 +22,6 @@ mod tests;
 mod turns;
 mod value;
 
-pub use fault::YardFault;
+pub use fault::{Word, YardFault};
+pub use place::{At, Key};
 pub use reader::read_yard;

@@ -1,44 +1,59 @@
 //! Reads the bytes of a yard file.
 ghost use Rattle.std.specs.Prelude.{◌≡◌};
 ghost use Rattle.toml.specs.View.{table_view};
-ghost use Rattle.yard_file.specs.Reads.{yard_fields, table_yard, yard_of, Gives};
+ghost use Rattle.yard_file.specs.Reads.{rules, sized, version_in, yard_of, Gives};
 
-use crate::YardFault;
-use crate::arrays::array_of;
+use crate::arrays::{block_tables, plate_tables};
 use crate::blocks::add_blocks;
 use crate::document::document_of;
-use crate::keys::{Section, has_known_keys};
+use crate::keys::known_keys;
 use crate::plates::add_plates;
 use crate::sizes::first_too_many;
-use crate::value::{number_of, value_at};
+use crate::value::{integer_at, number_at};
+use crate::{At, Key, YardFault};
 use shape_exact::Yard;
 use std::alloc::Global;
 use toml::Table;
 
-/// The yard that the keys of the top table give.
-#[tactic(auto, unfolding(crate::specs::Reads::yard_fields))]
-fn yard_fields(table: &Table) -> Option<Yard>
-    ensures { result ≡ yard_fields (table_view table.now) }
+/// The version of the file.
+#[tactic(auto, unfolding(crate::specs::Reads::version_in))]
+fn version_of(table: &Table) -> Result<i64, YardFault>
+    ensures { result ≡ version_in (table_view table.now) }
 {
-    let _version = number_of(value_at(table, "version"), 1, 1)?;
-    let days = number_of(value_at(table, "days"), 1, 400)?;
-    let plate_items = array_of(value_at(table, "plate"), 8)?;
-    let block_items = array_of(value_at(table, "block"), 32)?;
-    let yard = add_plates(Yard::start(days), plate_items)?;
-    add_blocks(yard, block_items)
-}
-
-/// The yard of a document; None where a rule is broken.
-fn table_yard(table: &Table) -> Option<Yard>
-    ensures { result ≡ table_yard (table_view table.now) }
-{
-    if !has_known_keys(table, Section::Top) {
-        return None;
+    let number = integer_at(table, At::Top, Key::Version)?;
+    if number == 1 {
+        Ok(number)
+    } else {
+        Err(YardFault::Version(number))
     }
-    yard_fields(table)
 }
 
-/// The yard that the bytes spell, or why the file is refused.
+/// The yard, unless some block has too many placements.
+fn sized(yard: Yard) -> Result<Yard, YardFault>
+    ensures { result ≡ sized yard }
+{
+    match first_too_many(&yard) {
+        Some(fault) => Err(fault),
+        None => Ok(yard),
+    }
+}
+
+/// The yard of a document, or the first rule that it breaks.
+#[tactic(auto, unfolding(crate::specs::Reads::rules))]
+fn table_yard(table: &Table) -> Result<Yard, YardFault>
+    ensures { result ≡ rules (table_view table.now) }
+{
+    let _version = version_of(table)?;
+    known_keys(table, At::Top)?;
+    let days = number_at(table, At::Top, Key::Days, 1, 400)?;
+    let plate_items = plate_tables(table)?;
+    let block_items = block_tables(table)?;
+    let yard = add_plates(Yard::start(days), plate_items)?;
+    let yard = add_blocks(yard, block_items)?;
+    sized(yard)
+}
+
+/// The yard that the bytes spell, or the first rule that they break, in the order of `docs/FORMATS.md`.
 #[tactic(auto, unfolding(crate::specs::Reads::yard_of))]
 pub fn read_yard(alloc: Global, bytes: &[u8]) -> Result<Yard, YardFault>
     ensures { Gives result (yard_of bytes.now) }
@@ -47,11 +62,5 @@ pub fn read_yard(alloc: Global, bytes: &[u8]) -> Result<Yard, YardFault>
         return Err(YardFault::TooLong);
     }
     let table = document_of(alloc, bytes)?;
-    let Some(yard) = table_yard(&table) else {
-        return Err(YardFault::NotBuilt);
-    };
-    match first_too_many(&yard) {
-        Some(fault) => Err(fault),
-        None => Ok(yard),
-    }
+    table_yard(&table)
 }

@@ -1,6 +1,11 @@
 //! Texts of yard files and what they are read as.
 
-use crate::{YardFault, read_yard};
+mod block_faults;
+mod refusals;
+mod top_faults;
+mod two_faults;
+
+use crate::read_yard;
 use std::alloc::{AllocError, Global};
 use std::test::Fail;
 
@@ -98,98 +103,6 @@ fn takes_what_is_within_the_limits(rt: HostRuntime) -> Result<(), Fail> {
 }
 
 #[test]
-fn refuses_one_broken_rule(rt: HostRuntime) -> Result<(), Fail> {
-    for (head, plates, blocks) in [
-        ("days=10", PLATE, BLOCK),
-        ("version=2\ndays=10", PLATE, BLOCK),
-        ("version.x=1\ndays=10", PLATE, BLOCK),
-        ("version=1", PLATE, BLOCK),
-        ("version=1\ndays=401", PLATE, BLOCK),
-        ("version=1\ndays=10.0", PLATE, BLOCK),
-        ("version=1\ndays=10\n\"\"=1", PLATE, BLOCK),
-        (HEAD, "1", BLOCK),
-        (HEAD, "{name='P Q',width=4,height=3}", BLOCK),
-        (HEAD, "{name=2024-01-01,width=4,height=3}", BLOCK),
-        (HEAD, "{name='P',width=65537,height=3}", BLOCK),
-        (HEAD, "{name='P',width=4,height=3,pitch=0}", BLOCK),
-        (HEAD, "{name='P',width=4,height=3,closed=[10]}", BLOCK),
-        (HEAD, "{name='P',width=4,height=3,closed=[-1]}", BLOCK),
-        (HEAD, "{name='P',width=4,height=3,closed=[3,3]}", BLOCK),
-        (HEAD, "{name='P',width=4,height=3,crane=1}", BLOCK),
-        (
-            HEAD,
-            "{name='P',width=4,height=3},{name='P',width=4,height=3}",
-            BLOCK,
-        ),
-        (
-            HEAD,
-            PLATE,
-            "{name='A',shape=[[0,0],[2,0],[2,2,1]],duration=2,due=1}",
-        ),
-        (
-            HEAD,
-            PLATE,
-            "{name='A',shape=[[0,0],[2,0],[2,true]],duration=2,due=1}",
-        ),
-        (
-            HEAD,
-            PLATE,
-            "{name='A',shape=[[0,0],[2,0],[4294967296,2]],duration=2,due=1}",
-        ),
-        (
-            HEAD,
-            PLATE,
-            "{name='A',shape=[[0,0],[1,1],[2,2]],duration=2,due=1}",
-        ),
-        (
-            HEAD,
-            PLATE,
-            "{name='A',shape=[[0,0],[2,0],[0,2]],duration=2,due=1,turns=[]}",
-        ),
-        (
-            HEAD,
-            PLATE,
-            "{name='A',shape=[[0,0],[2,0],[0,2]],duration=2,due=1,turns=[4]}",
-        ),
-        (
-            HEAD,
-            PLATE,
-            "{name='A',shape=[[0,0],[2,0],[0,2]],duration=2,due=1,turns=[1,1]}",
-        ),
-        (
-            HEAD,
-            PLATE,
-            "{name='A',shape=[[0,0],[2,0],[0,2]],duration=0,due=1}",
-        ),
-        (
-            HEAD,
-            PLATE,
-            "{name='A',shape=[[0,0],[2,0],[0,2]],duration=2}",
-        ),
-        (
-            HEAD,
-            PLATE,
-            "{name='A',shape=[[0,0],[2,0],[0,2]],duration=2,due=400}",
-        ),
-        (
-            HEAD,
-            PLATE,
-            "{name='A',shape=[[0,0],[2,0],[0,2]],duration=2,due=1,release=400}",
-        ),
-        (
-            HEAD,
-            PLATE,
-            "{name='A',shape=[[0,0],[2,0],[0,2]],duration=2,due=1,weight=1001}",
-        ),
-    ] {
-        let text = text_of(rt.alloc(), head, plates, blocks)?;
-        let read = read_yard(rt.alloc(), text.as_bytes());
-        assert!(rt; matches!(read, Err(YardFault::NotBuilt)), "{text}");
-    }
-    Ok(())
-}
-
-#[test]
 fn counts_plates_and_blocks(rt: HostRuntime) -> Result<(), Fail> {
     for (plates, blocks, taken) in [
         (8, 32, true),
@@ -231,7 +144,11 @@ fn says_the_refusal(rt: HostRuntime) -> Result<(), Fail> {
             b"version = 9223372036854775808".as_slice(),
             "refused yard 2 NotToml\n",
         ),
-        (b"".as_slice(), "refused yard 18 NotBuilt\n"),
+        (b"".as_slice(), "refused yard 3 Missing top version\n"),
+        (
+            heavy.as_bytes(),
+            "refused yard 17 TooManyPlacements 0 1064960\n",
+        ),
     ] {
         let said = match read_yard(rt.alloc(), bytes) {
             Ok(_) => Vec::new(rt.alloc()),

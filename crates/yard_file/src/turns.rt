@@ -1,19 +1,14 @@
 //! Reads turns.
-ghost use Rattle.std.specs.Prelude.{◌≡◌, ◌≤◌, ◌<◌, IfSome, option_map, true};
+ghost use Rattle.std.specs.Prelude.{◌≡◌, IfOk, option_map, true};
 ghost use Rattle.std.specs.List.{list_any};
 ghost use Rattle.toml.specs.View.{view, items_view};
-ghost use Rattle.yard_file.specs.Turns.{turn_of, turns_from, turns_in, no_turn};
+ghost use Rattle.yard_file.specs.Turns.{listed, some_turn, turns_in, turns_items};
 
-use crate::value::within;
+use crate::distinct::{all_integers, read_distinct};
+use crate::{At, Key, YardFault};
+use plate_calendar::DayFault;
+use shape_exact::DayList;
 use toml::Value;
-
-/// A number of quarter turns, 0 to 3.
-fn turn_of(value: &Value) -> Option<u16>
-    ensures value { result ≡ turn_of (view value.now) }
-    ensures few { IfSome result (λ q. q < 4) }
-{
-    within(0, 3, value.as_integer()?)
-}
 
 /// Whether there is a turn.
 fn has_turn(turns: &[bool]) -> bool
@@ -27,29 +22,55 @@ fn has_turn(turns: &[bool]) -> bool
     false
 }
 
-/// The turns of an array, none twice and at least one.
-fn read_turns(items: &[Value]) -> Option<[bool; 4]>
-    ensures value { result ≡ turns_from no_turn (items_view items.now) }
-    ensures some { IfSome result (λ turns. list_any (λ t. t) turns ≡ true) }
+/// The turns whose numbers are listed.
+fn listed(numbers: &DayList) -> [bool; 4]
+    ensures { result ≡ listed numbers.now }
 {
-    let mut turns = [false; 4];
-    for value in items {
-        let turn = turn_of(value)? as usize;
-        if turns[turn] {
-            return None;
-        }
-        turns[turn] = true;
+    [
+        numbers.has(0),
+        numbers.has(1),
+        numbers.has(2),
+        numbers.has(3),
+    ]
+}
+
+/// The turns, where there is at least one.
+fn some_turn(turns: [bool; 4], block: u8) -> Result<[bool; 4], YardFault>
+    ensures value { result ≡ some_turn block turns }
+    ensures some { IfOk result (λ turns. list_any (λ t. t) turns ≡ true) }
+{
+    if has_turn(&turns) {
+        Ok(turns)
+    } else {
+        Err(YardFault::Turn(block, 0))
     }
-    if has_turn(&turns) { Some(turns) } else { None }
+}
+
+/// The turns of an array, none twice and at least one.
+fn read_turns(items: &[Value], block: u8) -> Result<[bool; 4], YardFault>
+    ensures value { result ≡ turns_items block (items_view items.now) }
+    ensures some { IfOk result (λ turns. list_any (λ t. t) turns ≡ true) }
+{
+    if !all_integers(items) {
+        return Err(YardFault::Kind(At::Block(block), Key::Turns));
+    }
+    match read_distinct(4, items) {
+        Ok(numbers) => some_turn(listed(&numbers), block),
+        Err(DayFault::Range(i)) => Err(YardFault::Turn(block, i)),
+        Err(DayFault::Twice(i)) => Err(YardFault::Turn(block, i)),
+    }
 }
 
 /// The turns of a block: that of no quarter turn where there is no value.
-pub fn turns_of(value: Option<&Value>) -> Option<[bool; 4]>
-    ensures value { result ≡ turns_in (option_map (λ v. view v.now) value.entry) }
-    ensures some { IfSome result (λ turns. list_any (λ t. t) turns ≡ true) }
+pub fn turns_of(value: Option<&Value>, block: u8) -> Result<[bool; 4], YardFault>
+    ensures value { result ≡ turns_in block (option_map (λ v. view v.now) value.entry) }
+    ensures some { IfOk result (λ turns. list_any (λ t. t) turns ≡ true) }
 {
-    match value {
-        None => Some([true, false, false, false]),
-        Some(value) => read_turns(value.as_array()?.as_slice()),
+    let Some(value) = value else {
+        return Ok([true, false, false, false]);
+    };
+    match value.as_array() {
+        Some(items) => read_turns(items.as_slice(), block),
+        None => Err(YardFault::Kind(At::Block(block), Key::Turns)),
     }
 }

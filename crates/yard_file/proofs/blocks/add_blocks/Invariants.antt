@@ -5,5 +5,6 @@ use Rattle.yard_file.proofs.blocks.add_blocks.Given as goal
 
 abbrev pub invariant-loop-value : goal.invariant-loop-value
 invariant-loop-value l =
-    (length l.yard.blocks ≡ l.value-index) × (l.yard.days ≡ l.fn.yard.days) × (l.yard.plates ≡ l.fn.yard.plates)
-    × (blocks_from l.yard.blocks (items_view (drop l.value-index l.items)) ≡ blocks_from [] (items_view l.items))
+    (l.i ≡ l.value-index) × (length l.yard.blocks ≡ l.i) × (l.yard.days ≡ l.fn.yard.days) × (l.yard.plates ≡ l.fn.yard.plates)
+    × (l.yard.fixed ≡ l.fn.yard.fixed)
+    × (blocks_from l.i l.yard.blocks (items_view (drop l.value-index l.items)) ≡ blocks_from 0 [] (items_view l.items))

@@ -5,5 +5,6 @@ use Rattle.yard_file.proofs.plates.add_plates.Given as goal
 
 abbrev pub invariant-loop-value : goal.invariant-loop-value
 invariant-loop-value l =
-    (length l.yard.plates ≡ l.value-index) × (l.yard.days ≡ l.fn.yard.days) × (l.yard.blocks ≡ l.fn.yard.blocks)
-    × (plates_from l.fn.yard.days l.yard.plates (items_view (drop l.value-index l.items)) ≡ plates_from l.fn.yard.days [] (items_view l.items))
+    (l.i ≡ l.value-index) × (length l.yard.plates ≡ l.i) × (l.yard.days ≡ l.fn.yard.days) × (l.yard.blocks ≡ l.fn.yard.blocks)
+    × (l.yard.fixed ≡ l.fn.yard.fixed)
+    × (plates_from l.fn.yard.days l.i l.yard.plates (items_view (drop l.value-index l.items)) ≡ plates_from l.fn.yard.days 0 [] (items_view l.items))

@@ -1,0 +1,217 @@
+//! One fault each, in a block.
+
+use super::refusals::Row;
+use super::{HEAD, PLATE};
+
+pub const BLOCK_FAULTS: [Row; 35] = [
+    (
+        HEAD,
+        PLATE,
+        "{name='A',shape=[[0,0],[2,0],[0,2]],duration=2,due=1,early=1}",
+        "4 Unknown block 0 early",
+    ),
+    (
+        HEAD,
+        PLATE,
+        "{shape=[[0,0],[2,0],[0,2]],duration=2,due=1}",
+        "3 Missing block 0 name",
+    ),
+    (
+        HEAD,
+        PLATE,
+        "{name=1,shape=[[0,0],[2,0],[0,2]],duration=2,due=1}",
+        "5 Kind block 0 name",
+    ),
+    (
+        HEAD,
+        PLATE,
+        "{name='',shape=[[0,0],[2,0],[0,2]],duration=2,due=1}",
+        "13 BadName block 0",
+    ),
+    (
+        HEAD,
+        PLATE,
+        "{name='A',shape=[[0,0],[2,0],[0,2]],duration=2,due=1},{name='A',shape=[[0,0],[2,0],[0,2]],duration=2,due=1}",
+        "12 NameTwice block 1",
+    ),
+    (
+        HEAD,
+        PLATE,
+        "{name='A',duration=2,due=1}",
+        "3 Missing block 0 shape",
+    ),
+    (
+        HEAD,
+        PLATE,
+        "{name='A',shape='',duration=2,due=1}",
+        "5 Kind block 0 shape",
+    ),
+    (
+        HEAD,
+        PLATE,
+        "{name='A',shape=[[0,0],[2,0],[2,2,1]],duration=2,due=1}",
+        "5 Kind block 0 shape",
+    ),
+    (
+        HEAD,
+        PLATE,
+        "{name='A',shape=[[0,0],[2000,0],[2]],duration=2,due=1}",
+        "5 Kind block 0 shape",
+    ),
+    (
+        HEAD,
+        PLATE,
+        "{name='A',shape=[[]],duration=2,due=1}",
+        "5 Kind block 0 shape",
+    ),
+    (
+        HEAD,
+        PLATE,
+        "{name='A',shape=[[0,0],[2,0],[2,true]],duration=2,due=1}",
+        "5 Kind block 0 shape",
+    ),
+    (
+        HEAD,
+        PLATE,
+        "{name='A',shape=[],duration=2,due=1}",
+        "15 Shape block 0 TooFew",
+    ),
+    (
+        HEAD,
+        PLATE,
+        "{name='A',shape=[[0,0],[0,0],[0,0],[0,0],[0,0],[0,0],[0,0],[0,0],[0,0],[0,0],[0,0],[0,0],[0,0],[0,0],[0,0],[0,0],[0,0]],duration=2,due=1}",
+        "15 Shape block 0 TooMany",
+    ),
+    (
+        HEAD,
+        PLATE,
+        "{name='A',shape=[[1000000000000,0],[2,0],[2,2]],duration=2,due=1}",
+        "15 Shape block 0 Range 0",
+    ),
+    (
+        HEAD,
+        PLATE,
+        "{name='A',shape=[[0,0],[0,0],[2,4294967296]],duration=2,due=1}",
+        "15 Shape block 0 Range 2",
+    ),
+    (
+        HEAD,
+        PLATE,
+        "{name='A',shape=[[0,0],[2,0],[2,-1001]],duration=2,due=1}",
+        "15 Shape block 0 Range 2",
+    ),
+    (
+        HEAD,
+        PLATE,
+        "{name='A',shape=[[0,0],[2,0],[2,2],[0,0]],duration=2,due=1}",
+        "15 Shape block 0 Equal 0 3",
+    ),
+    (
+        HEAD,
+        PLATE,
+        "{name='A',shape=[[0,0],[10,6],[-2,6],[8,0],[4,10]],duration=2,due=1}",
+        "15 Shape block 0 NotConvex 0 3",
+    ),
+    (
+        HEAD,
+        PLATE,
+        "{name='A',shape=[[0,0],[1,1],[2,2]],duration=2,due=1}",
+        "15 Shape block 0 Flat",
+    ),
+    (
+        HEAD,
+        PLATE,
+        "{name='A',shape=[[0,0],[2,0],[0,2]],duration=2,due=1,turns=1}",
+        "5 Kind block 0 turns",
+    ),
+    (
+        HEAD,
+        PLATE,
+        "{name='A',shape=[[0,0],[2,0],[0,2]],duration=2,due=1,turns=[4,1.0]}",
+        "5 Kind block 0 turns",
+    ),
+    (
+        HEAD,
+        PLATE,
+        "{name='A',shape=[[0,0],[2,0],[0,2]],duration=2,due=1,turns=[]}",
+        "16 Turn block 0 0",
+    ),
+    (
+        HEAD,
+        PLATE,
+        "{name='A',shape=[[0,0],[2,0],[0,2]],duration=2,due=1,turns=[0,4]}",
+        "16 Turn block 0 1",
+    ),
+    (
+        HEAD,
+        PLATE,
+        "{name='A',shape=[[0,0],[2,0],[0,2]],duration=2,due=1,turns=[256]}",
+        "16 Turn block 0 0",
+    ),
+    (
+        HEAD,
+        PLATE,
+        "{name='A',shape=[[0,0],[2,0],[0,2]],duration=2,due=1,turns=[3,1,1]}",
+        "16 Turn block 0 2",
+    ),
+    (
+        HEAD,
+        PLATE,
+        "{name='A',shape=[[0,0],[2,0],[0,2]],due=1}",
+        "3 Missing block 0 duration",
+    ),
+    (
+        HEAD,
+        PLATE,
+        "{name='A',shape=[[0,0],[2,0],[0,2]],duration=[],due=1}",
+        "5 Kind block 0 duration",
+    ),
+    (
+        HEAD,
+        PLATE,
+        "{name='A',shape=[[0,0],[2,0],[0,2]],duration=0,due=1}",
+        "7 Number block 0 duration 0",
+    ),
+    (
+        HEAD,
+        PLATE,
+        "{name='A',shape=[[0,0],[2,0],[0,2]],duration=2,due=1,release='0'}",
+        "5 Kind block 0 release",
+    ),
+    (
+        HEAD,
+        PLATE,
+        "{name='A',shape=[[0,0],[2,0],[0,2]],duration=2,due=1,release=400}",
+        "7 Number block 0 release 400",
+    ),
+    (
+        HEAD,
+        PLATE,
+        "{name='A',shape=[[0,0],[2,0],[0,2]],duration=2}",
+        "3 Missing block 0 due",
+    ),
+    (
+        HEAD,
+        PLATE,
+        "{name='A',shape=[[0,0],[2,0],[0,2]],duration=2,due=10:00:00}",
+        "5 Kind block 0 due",
+    ),
+    (
+        HEAD,
+        PLATE,
+        "{name='A',shape=[[0,0],[2,0],[0,2]],duration=2,due=400}",
+        "7 Number block 0 due 400",
+    ),
+    (
+        HEAD,
+        PLATE,
+        "{name='A',shape=[[0,0],[2,0],[0,2]],duration=2,due=1,weight={}}",
+        "5 Kind block 0 weight",
+    ),
+    (
+        HEAD,
+        PLATE,
+        "{name='A',shape=[[0,0],[2,0],[0,2]],duration=2,due=1,weight=1001}",
+        "7 Number block 0 weight 1001",
+    ),
+];
