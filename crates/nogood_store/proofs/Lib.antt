@@ -1,0 +1,9 @@
+pub mod WaitLaws
+pub mod HitLaws
+pub mod PlaceLaws
+pub mod AmongLaws
+pub mod StepLaws
+pub mod HistoryLaws
+pub mod EnterLaws
+pub mod AddLaws
+pub mod GatherLaws
