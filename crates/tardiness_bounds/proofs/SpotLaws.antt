@@ -1,0 +1,342 @@
+-- The free placements of a slot, turn by turn.
+use Rattle.std.proofs.Common.{◌≡◌, ℕ, ◌+◌, ◌*◌, ◌/◌, ◌<◌, ◌≤◌, List, length, get_or, Bool, true, false, Option, Some, None, pos, Fits, w16, refl, sym, ap, ◌∙◌, subst, inl, inr, arith, add-one}
+use Rattle.std.specs.Prelude.{slice_get, is_some, unwrap_or, ◌↔◌, All, IfSome, IfNone}
+use Rattle.std.proofs.lemmas.Bool.{cases_lt, cases_order, false≢true}
+use Rattle.std.proofs.lemmas.Option.{same_Some, slice_get-get_or, slice_get_within}
+use Rattle.shape_exact.specs.Yards.{PlainYard, IsPlate, IsYard}
+use Rattle.shape_exact.specs.Shapes.{turned, reach_x, reach_y}
+use Rattle.shape_exact.specs.declared.block.Block.{Block}
+use Rattle.shape_exact.specs.declared.plate.Plate.{Plate}
+use Rattle.shape_exact.specs.declared.point.Point.{Point}
+use Rattle.plate_calendar.specs.Calendars.{open_days, end_of}
+use Rattle.lattice_free.specs.Clear.{AreClear}
+use Rattle.lattice_free.specs.Runs.{place}
+use Rattle.code_table.specs.declared.placement.Placement.{Placement}
+use Rattle.code_table.specs.Placements.{IsPlacement}
+use Rattle.code_table.proofs.ReadLaws.{read_at}
+use Rattle.plan_rule.specs.Clashes.{place_of}
+use Rattle.plan_rule.proofs.ClashLaws.{element}
+use Rattle.tardiness_bounds.specs.declared.near.Neighbour.{Neighbour}
+use Rattle.tardiness_bounds.specs.declared.slot.Slot.{Slot}
+use Rattle.tardiness_bounds.specs.declared.standing.Standing.{Standing}
+use Rattle.tardiness_bounds.specs.Tables.{PlainTables}
+use Rattle.tardiness_bounds.specs.Slots.{AreSlots, IsIn, IsSlot, place_of_slot}
+use Rattle.tardiness_bounds.specs.Neighbours.{AreNear, obstacles_of}
+use Rattle.tardiness_bounds.specs.Standings.{IsStanding}
+use Rattle.tardiness_bounds.specs.Witnesses.{AreFull, HasNoPlace, IsFree, IsFreeNear, IsFull, IsFullNear, IsWitness}
+use Rattle.tardiness_bounds.proofs.ClashLaws.{HaveOneSpan, clear_near, near_clear}
+use Rattle.tardiness_bounds.proofs.RowLaws.{HasNoClearFrom}
+use Rattle.tardiness_bounds.specs.Firsts.{IsFrom, IsOnFrom}
+use Rattle.code_table.proofs.CodeLaws.{multiple}
+use Rattle.std.proofs.lemmas.Nat.{mul-le}
+
+-- the plate and the end of a placement in a slot
+pub same_plate : (yard : PlainYard) (block : Block) (s : Slot) (p : Placement) (plate : Plate) → slice_get yard.plates s.plate ≡ Some plate
+    → (is : IsPlacement yard block p) → IsIn s p → is.plate ≡ plate
+same_plate yard block s p plate at is (start, on) = same_Some is.plate plate (sym is.plate_is ∙ ap (slice_get yard.plates) on ∙ at)
+
+pub same_end : (yard : PlainYard) (block : Block) (s : Slot) (p : Placement) → IsSlot yard block s → IsPlacement yard block p → IsIn s p → p.end ≡ s.end
+same_end yard block s p is placed (start, on) =
+    let e = is.ends in
+    let plate : placed.plate ≡ e.plate = same_Some placed.plate e.plate (sym placed.plate_is ∙ ap (slice_get yard.plates) on ∙ e.plate_is) in
+    same_Some p.end s.end
+    (sym placed.end_is
+    ∙ ap (λ (q : Plate). end_of (open_days yard.days q.closed) p.start block.duration) plate
+    ∙ ap (λ s. end_of (open_days yard.days e.plate.closed) s block.duration) start
+    ∙ e.end_is)
+
+-- a test of an optional answer that holds
+pub told_true : (o : Option Bool) → unwrap_or o false ≡ true → o ≡ Some true
+told_true None e = absurd (false≢true e)
+told_true (Some b) e = ap Some e
+
+-- what is known of a slot in one turn
+pub record IsAtSlot (yard : PlainYard) (b : ℕ) (s : Slot) (turn : ℕ) (plate : Plate) (shape : List Point) (rows columns : ℕ) : Type 0 where
+  pub block : b < length yard.blocks
+  pub plate_is : slice_get yard.plates s.plate ≡ Some plate
+  pub shape_is : (block : Block) → slice_get yard.blocks b ≡ Some block → shape ≡ turned turn block.shape
+  pub slot : (block : Block) → slice_get yard.blocks b ≡ Some block → IsSlot yard block s
+  pub rows_are : (k : ℕ) → (k < rows) ↔ (k * plate.pitch + reach_y shape ≤ plate.height)
+  pub columns_are : (k : ℕ) → (k < columns) ↔ (k * plate.pitch + reach_x shape ≤ plate.width)
+
+-- rows and columns are in the order of their positions
+scaled : (pitch row j : ℕ) → row < j → 1 ≤ pitch → row * pitch < j * pitch
+scaled pitch row j l some = let m = mul-le (row + 1) pitch j pitch (omega arith) (omega arith) in (let e : (row + 1) * pitch ≡ row * pitch + pitch = add_mul row pitch in omega arith)
+  where
+    add_mul : (row pitch : ℕ) → (row + 1) * pitch ≡ row * pitch + pitch
+    add_mul row pitch = rw add-one (omega arith)
+
+scaled_le : (pitch row j : ℕ) → row ≤ j → row * pitch ≤ j * pitch
+scaled_le pitch row j l = mul-le row pitch j pitch l (omega arith)
+
+pub on_positions : (pitch row column j k : ℕ) → 1 ≤ pitch → IsOnFrom row column j k → IsOnFrom (row * pitch) (column * pitch) (j * pitch) (k * pitch)
+on_positions pitch row column j k some on = elim on [
+  | inl l ↦ inl (scaled pitch row j l some)
+  | inr s ↦ inr (ap (λ r. r * pitch) s.0, scaled_le pitch column k s.1)
+]
+
+pub on_rows : (pitch row column j k : ℕ) → 1 ≤ pitch → IsOnFrom (row * pitch) (column * pitch) (j * pitch) (k * pitch) → IsOnFrom row column j k
+on_rows pitch row column j k some on = elim on [
+  | inl l ↦ elim (cases_lt row j) [ inl less ↦ inl less | inr more ↦ (let m = scaled_le pitch j row more in absurd (omega arith)) ]
+  | inr s ↦ elim (cases_order row j) [
+    | inl e ↦ elim (cases_lt k column) [
+      | inl less ↦ (let m = scaled pitch k column less some in let t = s.1 in absurd (omega arith))
+      | inr more ↦ inr (e, more)
+    ]
+    | inr apart ↦ elim apart [
+      | inl less ↦ inl less
+      | inr more ↦ (let m = scaled pitch j row more some in let t = s.0 in absurd (omega arith))
+    ]
+  ]
+]
+
+-- a multiple of the pitch is its row's position
+pub row_of_multiple : (pitch y : ℕ) → 1 ≤ pitch → (j : ℕ) × (y ≡ j * pitch) → y ≡ y / pitch * pitch
+row_of_multiple pitch y some (j, e) = e ∙ ap (λ r. r * pitch) (sym (multiple j pitch y (omega arith) (sym e)))
+
+-- a free placement of the turn stands at a row and a column whose position is clear
+pub record StandsAtRow (yard : PlainYard) (near : List Neighbour) (b turn : ℕ) (plate : Plate) (rows columns : ℕ) (p : Placement) : Type 0 where
+  pub j : ℕ
+  pub k : ℕ
+  pub row : j < rows
+  pub column : k < columns
+  pub y : p.y ≡ j * plate.pitch
+  pub x : p.x ≡ k * plate.pitch
+  pub clear : AreClear (obstacles_of yard (b * 4 + turn) near) (place plate.pitch j k)
+
+pub stands_at_row : (yard : PlainYard) (near : List Neighbour) (b : ℕ) (s : Slot) (turn : ℕ) (plate : Plate) (shape : List Point) (rows columns : ℕ)
+    → IsAtSlot yard b s turn plate shape rows columns → (p : Placement) → p.turn ≡ turn → IsFreeNear yard near b s p
+    → StandsAtRow yard near b turn plate rows columns p
+stands_at_row yard near b s turn plate shape rows columns h p t free =
+    let is = free.placement in
+    let same : is.plate ≡ plate = same_plate yard free.block s p plate h.plate_is is free.within in
+    let form : turned p.turn free.block.shape ≡ shape = ap (λ q. turned q free.block.shape) t ∙ sym (h.shape_is free.block free.block_is) in
+    let (j, y) = is.y_step in
+    let (k, x) = is.x_step in
+    let y_is : p.y ≡ j * plate.pitch = y ∙ ap (λ (q : Plate). j * q.pitch) same in
+    let x_is : p.x ≡ k * plate.pitch = x ∙ ap (λ (q : Plate). k * q.pitch) same in
+    let high : is.plate.height ≡ plate.height = ap (λ (q : Plate). q.height) same in
+    let wide : is.plate.width ≡ plate.width = ap (λ (q : Plate). q.width) same in
+    let reach_high : reach_y (turned p.turn free.block.shape) ≡ reach_y shape = ap reach_y form in
+    let reach_wide : reach_x (turned p.turn free.block.shape) ≡ reach_x shape = ap reach_x form in
+    let y_fits = is.y_fits in
+    let x_fits = is.x_fits in
+    let clear : AreClear (obstacles_of yard (b * 4 + turn) near) (place_of p) = subst (λ q. AreClear (obstacles_of yard (b * 4 + q) near) (place_of p)) t free.clear in
+    let at : place_of p ≡ place plate.pitch j k =
+    ap (λ x. (let q : Point = record { x = pos x; y = pos p.y } in q)) x_is ∙ ap (λ y. (let q : Point = record { x = pos (k * plate.pitch); y = pos y } in q)) y_is in
+    record {
+      j = j;
+      k = k;
+      row = (h.rows_are j).1 (omega arith);
+      column = (h.columns_are k).1 (omega arith);
+      y = y_is;
+      x = x_is;
+      clear = subst (AreClear (obstacles_of yard (b * 4 + turn) near)) at clear;
+    }
+
+on_at : (pitch y x row column j k : ℕ) (p : Placement) → 1 ≤ pitch → y ≡ row * pitch → x ≡ column * pitch → p.y ≡ j * pitch → p.x ≡ k * pitch
+    → IsFrom y x p → IsOnFrom row column j k
+on_at pitch y x row column j k p some ey ex fy fx on =
+    on_rows pitch row column j k some
+    (subst (λ y. IsOnFrom y (column * pitch) (j * pitch) (k * pitch)) ey
+    (subst (λ x. IsOnFrom y x (j * pitch) (k * pitch)) ex
+    (subst (λ v. IsOnFrom y x v (k * pitch)) fy (subst (λ u. IsOnFrom y x p.y u) fx on))))
+
+-- where no position from a row and a column on is clear, no placement of the turn from there on is free
+pub turn_none : (yard : PlainYard) (near : List Neighbour) (b : ℕ) (s : Slot) (turn : ℕ) (plate : Plate) (shape : List Point) (rows columns y x row column : ℕ)
+    → IsAtSlot yard b s turn plate shape rows columns → 1 ≤ plate.pitch → y ≡ row * plate.pitch → x ≡ column * plate.pitch
+    → HasNoClearFrom (obstacles_of yard (b * 4 + turn) near) plate.pitch rows columns row column
+    → (p : Placement) → p.turn ≡ turn → IsFreeNear yard near b s p → IsFrom y x p → ⊥
+turn_none yard near b s turn plate shape rows columns y x row column h some ey ex none p t free on =
+    let at = stands_at_row yard near b s turn plate shape rows columns h p t free in
+    none at.j at.k at.row at.column (on_at plate.pitch y x row column at.j at.k p some ey ex at.y at.x on) at.clear
+
+-- the first clear position from there on is that of the first free placement
+pub turn_first : (yard : PlainYard) (near : List Neighbour) (b : ℕ) (s : Slot) (turn : ℕ) (plate : Plate) (shape : List Point) (rows columns y x row column m n : ℕ)
+    → IsAtSlot yard b s turn plate shape rows columns → 1 ≤ plate.pitch → y ≡ row * plate.pitch → x ≡ column * plate.pitch
+    → ((j k : ℕ) → j < rows → k < columns → IsOnFrom row column j k → AreClear (obstacles_of yard (b * 4 + turn) near) (place plate.pitch j k) → IsOnFrom m n j k)
+    → (p : Placement) → p.turn ≡ turn → IsFreeNear yard near b s p → IsFrom y x p → IsFrom (m * plate.pitch) (n * plate.pitch) p
+turn_first yard near b s turn plate shape rows columns y x row column m n h some ey ex first p t free on =
+    let at = stands_at_row yard near b s turn plate shape rows columns h p t free in
+    let later = first at.j at.k at.row at.column (on_at plate.pitch y x row column at.j at.k p some ey ex at.y at.x on) at.clear in
+    subst (λ v. IsOnFrom (m * plate.pitch) (n * plate.pitch) v p.x) (sym at.y)
+    (subst (λ u. IsOnFrom (m * plate.pitch) (n * plate.pitch) (at.j * plate.pitch) u) (sym at.x) (on_positions plate.pitch m n at.j at.k some later))
+
+-- it is at or after where the search began
+pub turn_from : (pitch y x row column m n : ℕ) → 1 ≤ pitch → y ≡ row * pitch → x ≡ column * pitch → IsOnFrom row column m n
+    → IsOnFrom y x (m * pitch) (n * pitch)
+turn_from pitch y x row column m n some ey ex on =
+    subst (λ y. IsOnFrom y x (m * pitch) (n * pitch)) (sym ey)
+    (subst (λ x. IsOnFrom (row * pitch) x (m * pitch) (n * pitch)) (sym ex) (on_positions pitch row column m n some on))
+
+-- the placement of a slot in a turn, at a row and a column
+abbrev pub placed_at : Slot → ℕ → ℕ → ℕ → Placement
+placed_at s turn y x = record { start = s.start; end = s.end; plate = s.plate; turn = turn; y = y; x = x }
+
+-- a clear position is a free placement
+pub turn_some : (yard : PlainYard) (near : List Neighbour) (b : ℕ) (s : Slot) (turn : ℕ) (plate : Plate) (shape : List Point) (rows columns j k : ℕ)
+    → IsAtSlot yard b s turn plate shape rows columns → turn < 4
+    → ((block : Block) → slice_get yard.blocks b ≡ Some block → unwrap_or (slice_get block.turns turn) false ≡ true)
+    → j < rows → k < columns → AreClear (obstacles_of yard (b * 4 + turn) near) (place plate.pitch j k)
+    → IsFreeNear yard near b s (placed_at s turn (j * plate.pitch) (k * plate.pitch))
+turn_some yard near b s turn plate shape rows columns j k h t allowed row column clear =
+    let (block, block_is) = element yard.blocks b h.block in
+    let slot = h.slot block block_is in
+    let e = slot.ends in
+    let same : e.plate ≡ plate = same_Some e.plate plate (sym e.plate_is ∙ h.plate_is) in
+    let form : shape ≡ turned turn block.shape = h.shape_is block block_is in
+    let high = (h.rows_are j).0 row in
+    let wide = (h.columns_are k).0 column in
+    let reach_high : reach_y shape ≡ reach_y (turned turn block.shape) = ap reach_y form in
+    let reach_wide : reach_x shape ≡ reach_x (turned turn block.shape) = ap reach_x form in
+    record {
+      block = block;
+      block_is = block_is;
+      placement = record {
+        plate = plate;
+        plate_is = h.plate_is;
+        start = slot.start;
+        released = e.released;
+        end_is = ap (λ (q : Plate). end_of (open_days yard.days q.closed) s.start block.duration) (sym same) ∙ e.end_is;
+        turn = t;
+        allowed = told_true (slice_get block.turns turn) (allowed block block_is);
+        x_step = (k, refl);
+        y_step = (j, refl);
+        x_fits = omega arith;
+        y_fits = omega arith;
+      };
+      within = (refl, refl);
+      clear = clear;
+    }
+
+-- no free placement of the slot has one of the first turns
+abbrev pub AreTurnsFull : PlainYard → List Neighbour → ℕ → Slot → ℕ → Type 0
+AreTurnsFull yard near b s n = (p : Placement) → p.turn < n → IsFreeNear yard near b s p → ⊥
+
+pub turns_more : (yard : PlainYard) (near : List Neighbour) (b : ℕ) (s : Slot) (n : ℕ) → AreTurnsFull yard near b s n
+    → ((p : Placement) → p.turn ≡ n → IsFreeNear yard near b s p → ⊥) → AreTurnsFull yard near b s (n + 1)
+turns_more yard near b s n h here p l free = elim (cases_lt p.turn n) [ inl less ↦ h p less free | inr same ↦ here p (omega arith) free ]
+
+-- a turn that the block may not take has no free placement
+pub turn_refused : (yard : PlainYard) (near : List Neighbour) (b : ℕ) (s : Slot) (n : ℕ) (may : Bool) → b < length yard.blocks
+    → ((block : Block) → slice_get yard.blocks b ≡ Some block → may ≡ unwrap_or (slice_get block.turns n) false) → may ≡ false
+    → (p : Placement) → p.turn ≡ n → IsFreeNear yard near b s p → ⊥
+turn_refused yard near b s n may l is no_turn p t free =
+    let e : unwrap_or (slice_get free.block.turns p.turn) false ≡ true = ap (λ o. unwrap_or o false) free.placement.allowed in
+    let f : unwrap_or (slice_get free.block.turns n) false ≡ true = ap (λ q. unwrap_or (slice_get free.block.turns q) false) (sym t) ∙ e in
+    false≢true (sym no_turn ∙ is free.block free.block_is ∙ f)
+
+-- a placement of a slot has the slot's span
+slot_span : (yard : PlainYard) (block : Block) (s : Slot) (p : Placement) → IsSlot yard block s → IsPlacement yard block p → IsIn s p
+    → HaveOneSpan (place_of_slot s) p
+slot_span yard block s p slot is (start, on) = (sym on, sym start, sym (same_end yard block s p slot is (start, on)))
+
+-- what is free of what stands near a slot is free
+pub free_near : (yard : PlainYard) (list : List Standing) (near : List Neighbour) (b : ℕ) (s : Slot) (p : Placement)
+    → ((block : Block) → slice_get yard.blocks b ≡ Some block → IsSlot yard block s) → All (IsStanding yard) list
+    → AreNear yard (place_of_slot s) list (length yard.fixed) near → IsFreeNear yard near b s p → IsFree yard list b s p
+free_near yard list near b s p slot stand are free = record {
+  block = free.block;
+  block_is = free.block_is;
+  placement = free.placement;
+  within = free.within;
+  clear = near_clear yard list near b (place_of_slot s) p are stand (slice_get_within yard.blocks b free.block free.block_is) free.placement.turn
+      (slot_span yard free.block s p (slot free.block free.block_is) free.placement free.within) free.clear;
+}
+
+-- and the other way round
+pub near_free : (yard : PlainYard) (list : List Standing) (near : List Neighbour) (b : ℕ) (s : Slot) (p : Placement)
+    → ((block : Block) → slice_get yard.blocks b ≡ Some block → IsSlot yard block s) → All (IsStanding yard) list
+    → AreNear yard (place_of_slot s) list (length yard.fixed) near → IsFree yard list b s p → IsFreeNear yard near b s p
+near_free yard list near b s p slot stand are free = record {
+  block = free.block;
+  block_is = free.block_is;
+  placement = free.placement;
+  within = free.within;
+  clear = clear_near yard list near b (place_of_slot s) p are stand (slice_get_within yard.blocks b free.block free.block_is) free.placement.turn
+      (slot_span yard free.block s p (slot free.block free.block_is) free.placement free.within) free.clear;
+}
+
+pub full_near : (yard : PlainYard) (list : List Standing) (near : List Neighbour) (b : ℕ) (s : Slot)
+    → ((block : Block) → slice_get yard.blocks b ≡ Some block → IsSlot yard block s) → All (IsStanding yard) list
+    → AreNear yard (place_of_slot s) list (length yard.fixed) near → IsFullNear yard near b s → IsFull yard list b s
+full_near yard list near b s slot stand are full p free = full p (near_free yard list near b s p slot stand are free)
+
+-- one slot more is full
+pub full_next : (t : PlainTables) (list : List Standing) (b n : ℕ) (slots : List Slot) (s : Slot) → slice_get t.slots b ≡ Some slots → slice_get slots n ≡ Some s
+    → AreFull t list b n → IsFull t.yard list b s → AreFull t list b (n + 1)
+full_next t list b n slots s are at h full more i r more_are l here = elim (cases_lt i n) [
+  | inl less ↦ h more i r more_are less here
+  | inr same ↦
+      let e : i ≡ n = omega arith in
+      let same_slots : more ≡ slots = same_Some more slots (sym more_are ∙ are) in
+      let same_slot : s ≡ r = same_Some s r (sym at ∙ ap (slice_get slots) (sym e) ∙ ap (λ ss. slice_get ss i) (sym same_slots) ∙ here) in
+      subst (IsFull t.yard list b) same_slot full
+]
+
+-- where all slots are full the block has no place
+pub full_all : (t : PlainTables) (list : List Standing) (b n : ℕ) (slots : List Slot) → slice_get t.slots b ≡ Some slots → length slots ≤ n
+    → ((block : Block) → slice_get t.yard.blocks b ≡ Some block → AreSlots t.yard block slots) → AreFull t list b n → HasNoPlace t.yard list b
+full_all t list b n slots are l each full block p at placed clear =
+    let (j, s, within, s_is, inside) = (each block at).all p placed in
+    full slots j s are (omega arith) (slice_get-get_or slots j s within ∙ ap Some s_is) p
+    (record { block = block; block_is = at; placement = placed; within = inside; clear = clear })
+
+-- the plate of a slot
+pub slot_plate : (yard : PlainYard) (b : ℕ) (s : Slot) → b < length yard.blocks
+    → ((block : Block) → slice_get yard.blocks b ≡ Some block → IsSlot yard block s) → s.plate < length yard.plates
+slot_plate yard b s l slot =
+    let (block, at) = element yard.blocks b l in
+    let e = (slot block at).ends in
+    slice_get_within yard.plates s.plate e.plate e.plate_is
+
+-- the plate that was read is the slot's, within the limits
+pub plate_read : (yard codes y : PlainYard) (plates : List Plate) (i : ℕ) (plate : Plate) → IsYard codes → codes ≡ yard → y ≡ codes → plates ≡ y.plates
+    → i < length yard.plates → plate ≡ get_or plates i plate → (slice_get yard.plates i ≡ Some plate) × IsPlate yard.days plate
+plate_read yard codes y plates i plate is e f g l read =
+    let same : plates ≡ yard.plates = g ∙ ap (λ (y : PlainYard). y.plates) (f ∙ e) in
+    let limits : IsYard yard = subst IsYard e is in
+    let here : plate ≡ get_or yard.plates i plate = subst (λ (ps : List Plate). plate ≡ get_or ps i plate) same read in (
+      read_at yard.plates plates i plate same l read,
+      subst (IsPlate yard.days) (sym here) (limits.plates i plate l),
+    )
+
+-- a position within a side is small
+pub position_fits : (n pitch reach side k : ℕ) → ((k : ℕ) → (k < n) ↔ (k * pitch + reach ≤ side)) → side ≤ 400 → k < n → Fits w16 (k * pitch)
+position_fits n pitch reach side k are small l = let h = (are k).0 l in omega arith
+
+-- what follows from what is so of an answer
+pub none_so : {A : Type 0} (o : Option A) (P Q : Type 0) → (P → Q) → IfNone o P → IfNone o Q
+none_so None P Q f h = f h
+none_so (Some x) P Q f h = tt
+
+pub some_so : {A : Type 0} (o : Option A) (P Q : A → Type 0) → ((x : A) → P x → Q x) → IfSome o P → IfSome o Q
+some_so None P Q f h = tt
+some_so (Some x) P Q f h = f x h
+
+-- the witness in the first slot that is not full
+pub witness_at : (t : PlainTables) (list : List Standing) (b i : ℕ) (slots : List Slot) (d : Slot) (p : Placement) → slice_get t.slots b ≡ Some slots → i < length slots
+    → IsFree t.yard list b (get_or slots i d) p → AreFull t list b i → IsWitness t list b (record { slot = i; cost = (get_or slots i d).cost; place = p })
+witness_at t list b i slots d p are l free full = record {
+  slots = slots;
+  slot = get_or slots i d;
+  slots_are = are;
+  slot_is = slice_get-get_or slots i d l;
+  cost = refl;
+  free = free;
+  before = full;
+}
+
+-- each slot of the block is one
+pub slot_of : (yard : PlainYard) (b i : ℕ) (slots : List Slot) (d : Slot) → ((block : Block) → slice_get yard.blocks b ≡ Some block → AreSlots yard block slots)
+    → i < length slots → (block : Block) → slice_get yard.blocks b ≡ Some block → IsSlot yard block (get_or slots i d)
+slot_of yard b i slots d are l block at = (are block at).each i d l
+
+-- every placement is at or after the position 0, 0
+pub from_zero : (p : Placement) → IsFrom 0 0 p
+from_zero p = elim (cases_lt 0 p.y) [ inl l ↦ inl l | inr z ↦ inr (omega arith, omega arith) ]
+
+-- what is so where an answer is none
+pub none_is : {A : Type 0} (o : Option A) (P : Type 0) → is_some o ≡ false → IfNone o P → P
+none_is None P e h = h
+none_is (Some x) P e h = absurd (false≢true (sym e))

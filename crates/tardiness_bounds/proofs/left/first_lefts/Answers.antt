@@ -1,0 +1,28 @@
+use Rattle.std.proofs.Common.{◌≡◌, ◌+◌, [], ◌∷◌, length, ap, ◌∙◌, length-append, arith}
+use Rattle.plan_rule.specs.Choices.{blocks}
+use Rattle.plan_rule.specs.Yards.{choices}
+use Rattle.plan_rule.proofs.CountLaws.{block_exists, blocks-length}
+use Rattle.tardiness_bounds.specs.Lefts.{IsLeft}
+use Rattle.tardiness_bounds.proofs.NextLaws.{each_more}
+use Rattle.tardiness_bounds.proofs.left.first_lefts.Goals as goal
+
+pub left_from-requires-clause-block : goal.left_from-requires-clause-block
+left_from-requires-clause-block c =
+    let e : blocks (choices c.codes-codes.result.now) ≡ blocks (choices c.args.tables.now.yard) = ap (λ y. blocks (choices y)) c.codes-codes.ensures in
+    block_exists c.args.tables.now.yard c.loop-block.block (let v = c.block_count-block-end.ensures.value in omega arith)
+
+pub loop-block-preserved : goal.loop-block-preserved
+loop-block-preserved c = record {
+  len = ap length c.push.ensures.items ∙ length-append c.loop-block.lefts.items (c.left_from.result ∷ []) ∙ ap (λ n. n + 1) c.loop-block.invariant.len;
+  each = each_more (IsLeft c.args.tables.now []) c.loop-block.lefts.items c.push.new.self.items c.left_from.result c.loop-block.block
+      c.loop-block.invariant.len c.loop-block.invariant.each c.left_from.ensures c.push.ensures.items;
+}
+
+pub returns : goal.returns
+returns c =
+    let e : blocks (choices c.codes-codes.result.now) ≡ blocks (choices c.args.tables.now.yard) = ap (λ y. blocks (choices y)) c.codes-codes.ensures in
+    let n = blocks-length c.args.tables.now.yard in
+    record {
+      len = (let v = c.block_count-block-end.ensures.value in let l = c.loop-block.invariant.len in omega arith);
+      each = c.loop-block.invariant.each;
+    }

@@ -1,0 +1,7 @@
+use Rattle.std.proofs.Common.{sym}
+use Rattle.plan_rule.specs.Yards.{choices}
+use Rattle.tardiness_bounds.proofs.RestLaws.{exact_exists}
+use Rattle.tardiness_bounds.proofs.window.used_by.Goals as goal
+
+pub taken-requires : goal.taken-requires
+taken-requires c = exact_exists (choices c.args.codes.now) c.args.side.now c.args.block c.in-Some.code c.requires.side (sym c.in-Some.ensures)

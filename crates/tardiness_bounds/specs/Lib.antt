@@ -1,0 +1,15 @@
+pub mod Numbers
+pub mod Windows
+pub mod Firsts
+pub mod Slots
+pub mod Footprints
+pub mod Standings
+pub mod Neighbours
+pub mod Obstacles
+pub mod Rows
+pub mod Tables
+pub mod Witnesses
+pub mod Lefts
+pub mod Stacks
+pub mod BestWindows
+pub mod Nexts

@@ -1,0 +1,261 @@
+//! The fit of a box of exact literals that grows and shrinks.
+ghost use Rattle.std.specs.Prelude.{◌≡◌, true, false, ◌<◌, ◌≤◌, ◌++◌, ◌∷◌, [], All, length, take, ◌-◌, IfOk, IfSome};
+ghost use Rattle.plan_rule.specs.Bounds.{IsFit, IsLeastOf, MayFit};
+ghost use Rattle.plan_rule.specs.Boxes.{exact, LeavesFree};
+ghost use Rattle.plan_rule.specs.Choices.{IsCode, blocks, count};
+ghost use Rattle.plan_rule.specs.Yards.{choices};
+ghost use Rattle.tardiness_bounds.specs.Firsts.{IsFirst};
+ghost use Rattle.tardiness_bounds.specs.Nexts.{MayFitUpTo};
+ghost use Rattle.tardiness_bounds.specs.Lefts.{AreLefts, AreLeftsBefore, cost_of_left};
+ghost use Rattle.tardiness_bounds.specs.Numbers.{number};
+ghost use Rattle.tardiness_bounds.specs.Stacks.{CanPush};
+ghost use Rattle.tardiness_bounds.specs.Standings.{IsClearAt, IsStanding, StandOnce, literals_of};
+
+use crate::apart::are_apart;
+use crate::bound::{Bound, bound_of};
+use crate::left::{Left, first_lefts, next_lefts};
+use crate::near::near_to;
+use crate::next::next_from;
+use crate::standing::Standing;
+use crate::tables::YardTables;
+use arrayvec::ArrayVec;
+use code_table::Codes;
+use plan_rule::block_count;
+use shape_exact::NoMemory;
+use std::alloc::Global;
+use std::marker::Model;
+
+/// What is left to each block.
+#[derive(Drop)]
+pub(crate) struct Level {
+    pub lefts: ArrayVec<Left, 32>,
+}
+
+/// Exact literals that were pushed, and what each number of the first of them leaves to each block. Contracts see it as
+/// the yard and the list of the literals, in the order of the pushes.
+#[derive(Drop)]
+pub struct Frontier<'a> {
+    tables: &'a YardTables<'a>,
+    list: ArrayVec<Standing, 32>,
+    levels: Vec<Level>,
+}
+
+impl<'a> Model for Frontier<'a> {
+    ghost use Rattle.std.specs.Prelude.{vec_capacity};
+    ghost use Rattle.tardiness_bounds.specs.Stacks.{IsStack, PlainFrontier};
+    ghost use Rattle.tardiness_bounds.specs.Standings.{literals_of};
+
+    ghost Value = { PlainFrontier };
+
+    ghost view = { λ s. record { yard = s.tables.now.yard; literals = literals_of s.list.items } };
+
+    ghost invariant = { λ s. IsStack s.tables.now s.list.items s.levels.items (vec_capacity s.levels) };
+}
+
+/// What a block costs at least of what is left to it. None where nothing is.
+fn cost_of(left: Left) -> Option<u32>
+    ensures { result ≡ cost_of_left left }
+{
+    match left {
+        Left::Stands(cost) => Some(cost),
+        Left::Free(w) => Some(w.cost),
+        Left::Never => None,
+    }
+}
+
+/// The block at a code.
+fn standing_at(tables: &YardTables<'_>, block: u8, code: u32) -> Standing
+    requires { IsCode (choices tables.now.yard) block code }
+    ensures block { result.block ≡ block }
+    ensures code { result.code ≡ code }
+    ensures standing { IsStanding tables.now.yard result }
+{
+    let place = tables.codes().place(block, code);
+    Standing { block, code, place }
+}
+
+/// What is left where one more block stands, the last of the list.
+fn next_level(tables: &YardTables<'_>, list: &[Standing], new: Standing, old: &Level) -> Level
+    requires list { All (IsStanding tables.now.yard) list.now }
+    requires few { length list.now ≤ 32 }
+    requires old { AreLeftsBefore tables.now list.now new old.now.lefts.items }
+    ensures { AreLefts tables.now list.now result.lefts.items }
+{
+    Level {
+        lefts: next_lefts(tables, list, new, old.lefts.as_slice()),
+    }
+}
+
+/// What a block costs at least of what is left to it; None where nothing is.
+fn least_in(tables: &YardTables<'_>, list: &[Standing], lefts: &[Left], block: u8) -> Option<u32>
+    requires list { All (IsStanding tables.now.yard) list.now }
+    requires once { StandOnce list.now }
+    requires lefts { AreLefts tables.now list.now lefts.now }
+    requires block { block < blocks (choices tables.now.yard) }
+    ensures least { IsLeastOf (MayFit (choices tables.now.yard) (literals_of list.now) block) ((choices tables.now.yard).cost block) result }
+    ensures few { IfSome result (λ n. n ≤ 400000) }
+{
+    let _yard = tables.codes().yard();
+    let _slots = tables.slots(block);
+    cost_of(lefts[block as usize])
+}
+
+/// The sum of what the blocks cost at least of what is left to them; None where nothing is left to one.
+fn sum_of(tables: &YardTables<'_>, list: &[Standing], lefts: &[Left]) -> Option<u32>
+    requires list { All (IsStanding tables.now.yard) list.now }
+    requires once { StandOnce list.now }
+    requires lefts { AreLefts tables.now list.now lefts.now }
+    ensures { IsFit (choices tables.now.yard) (literals_of list.now) result }
+{
+    let mut sum = 0;
+    for block in 0..block_count(tables.codes()) {
+        sum += least_in(tables, list, lefts, block)?;
+    }
+    Some(sum)
+}
+
+/// Whether none of the blocks that stand is this block.
+fn leaves_free(list: &[Standing], block: u8) -> bool
+    ensures yes { result ≡ true → LeavesFree (literals_of list.now) block }
+    ensures no { result ≡ false → LeavesFree (literals_of list.now) block → ⊥ }
+{
+    for f in list {
+        if f.block == block {
+            return false;
+        }
+    }
+    true
+}
+
+/// Whether a block that does not stand clashes, at a code, with none of those that stand, and meets no piece.
+fn is_clear(tables: &YardTables<'_>, list: &[Standing], block: u8, code: u32) -> bool
+    requires list { All (IsStanding tables.now.yard) list.now }
+    requires few { length list.now ≤ 32 }
+    requires code { IsCode (choices tables.now.yard) block code }
+    ensures yes { result ≡ true → IsClearAt tables.now.yard list.now block code }
+    ensures no { result ≡ false → IsClearAt tables.now.yard list.now block code → ⊥ }
+{
+    let _yard = tables.codes().yard();
+    let new = standing_at(tables, block, code);
+    let near = near_to(tables, list, new.place);
+    are_apart(
+        tables,
+        near.as_slice(),
+        block * 4 + new.place.turn,
+        new.place,
+    )
+}
+
+impl<'a> Frontier<'a> {
+    /// No literal.
+    pub fn new(alloc: Global, tables: &'a YardTables<'a>) -> Result<Frontier<'a>, NoMemory>
+        ensures yard { IfOk result (λ frontier. frontier.yard ≡ tables.now.yard) }
+        ensures empty { IfOk result (λ frontier. frontier.literals ≡ []) }
+    {
+        let _yard = tables.codes().yard();
+        let mut levels = Vec::with_capacity(alloc, 33)?;
+        levels.push(Level {
+            lefts: first_lefts(tables),
+        })?;
+        Ok(Frontier {
+            tables,
+            list: ArrayVec::new(),
+            levels,
+        })
+    }
+
+    /// The codes of the yard.
+    pub fn codes(&self) -> &Codes
+        ensures { result.now ≡ self.now.yard }
+    {
+        self.tables.codes()
+    }
+
+    /// How many literals were pushed and not popped.
+    pub fn len(&self) -> usize
+        ensures { result ≡ length self.now.literals }
+    {
+        self.list.len()
+    }
+
+    /// Pushes the literal of one code of a block that has none. Only the witnesses that clash with it are sought anew.
+    /// Takes no memory.
+    pub fn push(&mut self, block: u8, code: u32)
+        requires { CanPush self.old block code }
+        ensures yard { self.new.yard ≡ self.old.yard }
+        ensures pushed { self.new.literals ≡ self.old.literals ++ exact block code ∷ [] }
+    {
+        let new = standing_at(self.tables, block, code);
+        let depth = self.list.len();
+        self.list.push(new);
+        let level = next_level(self.tables, self.list.as_slice(), new, &self.levels[depth]);
+        let Ok(()) = self.levels.push(level) else {
+            unreachable!()
+        };
+    }
+
+    /// Whether the literal of the code may be pushed: the code exists, and its block has no literal.
+    pub fn can_push(&self, block: u8, code: u32) -> bool
+        ensures yes { result ≡ true → CanPush self.now block code }
+        ensures no { result ≡ false → CanPush self.now block code → ⊥ }
+    {
+        let codes = self.tables.codes();
+        if block >= block_count(codes) {
+            return false;
+        }
+        if code >= codes.count(block) {
+            return false;
+        }
+        leaves_free(self.list.as_slice(), block)
+    }
+
+    /// Whether a code of a block without a literal clashes with no literal.
+    pub fn may_fit(&self, block: u8, code: u32) -> bool
+        requires { CanPush self.now block code }
+        ensures yes { result ≡ true → MayFit (choices self.now.yard) self.now.literals block code }
+        ensures no { result ≡ false → MayFit (choices self.now.yard) self.now.literals block code → ⊥ }
+    {
+        is_clear(self.tables, self.list.as_slice(), block, code)
+    }
+
+    /// Undoes the last push.
+    pub fn pop(&mut self)
+        requires { 0 < length self.old.literals }
+        ensures yard { self.new.yard ≡ self.old.yard }
+        ensures popped { self.new.literals ≡ take (length self.old.literals - 1) self.old.literals }
+    {
+        self.list.pop();
+        self.levels.truncate(self.list.len() + 1);
+    }
+
+    /// The fit of the box of the literals. Takes no memory.
+    pub fn bound(&self) -> Bound
+        ensures { IsFit (choices self.now.yard) self.now.literals (number result) }
+    {
+        let list = self.list.as_slice();
+        let lefts = self.levels[list.len()].lefts.as_slice();
+        bound_of(sum_of(self.tables, list, lefts))
+    }
+
+    /// The least own cost of the codes of a block that clash with no literal; None where there is none. Of a block with a
+    /// literal, the cost of its code.
+    pub fn least(&self, block: u8) -> Option<u32>
+        requires { block < blocks (choices self.now.yard) }
+        ensures { IsLeastOf (MayFit (choices self.now.yard) self.now.literals block) ((choices self.now.yard).cost block) result }
+    {
+        let list = self.list.as_slice();
+        let lefts = self.levels[list.len()].lefts.as_slice();
+        least_in(self.tables, list, lefts, block)
+    }
+
+    /// The next code of a block without a literal, from `code` on, that clashes with no literal and costs at most `most`.
+    /// None where there is none. Starts, plates and turns are walked in the order of the codes; in each the first clear
+    /// position is sought by rows of obstacles. Takes no memory.
+    pub fn next_free(&self, block: u8, code: u32, most: u32) -> Option<u32>
+        requires block { block < blocks (choices self.now.yard) }
+        requires free { LeavesFree self.now.literals block }
+        ensures { IsFirst (MayFitUpTo (choices self.now.yard) self.now.literals block most) code (count (choices self.now.yard) block) result }
+    {
+        next_from(self.tables, self.list.as_slice(), block, code, most)
+    }
+}

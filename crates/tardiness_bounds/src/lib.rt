@@ -1,0 +1,40 @@
+//! Lower bounds of the total cost of the plans of a box: the base, the fit and the energy; and the fit of a list of exact
+//! literals that grows and shrinks, the frontier of a search.
+//!
+//! A bound is a number, or Never where the box holds no feasible plan. No bound is above the total of a feasible plan in
+//! the box (`docs/SEARCH.md`).
+#![tactic(auto)]
+
+mod apart;
+mod base_of;
+mod best;
+mod block;
+mod bound;
+mod energy_of;
+mod fit_of;
+mod frontier;
+mod gap;
+mod ground;
+mod lattice;
+mod left;
+mod near;
+mod next;
+mod obstacles;
+mod rest;
+mod rows;
+mod slot;
+mod standing;
+mod tables;
+mod window;
+mod witness;
+
+pub use base_of::base;
+pub use best::best_window;
+pub use bound::Bound;
+pub use energy_of::energy;
+pub use fit_of::{fit, fit_among};
+pub use frontier::Frontier;
+pub use tables::YardTables;
+
+#[cfg(test)]
+mod tests;

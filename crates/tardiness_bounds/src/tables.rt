@@ -1,0 +1,121 @@
+//! What is made once of a yard to find free tables.
+ghost use Rattle.std.specs.Prelude.{◌≡◌, ◌<◌, ℕ, pos, ◌-ℤ◌, Some, length, slice_get, IfOk};
+ghost use Rattle.shape_exact.specs.Yards.{PlainYard};
+ghost use Rattle.shape_exact.specs.declared.block.Block.{Block};
+ghost use Rattle.tardiness_bounds.specs.Footprints.{footprint_count, pair_at, turned_count};
+ghost use Rattle.tardiness_bounds.specs.Rows.{IsRowOf};
+ghost use Rattle.tardiness_bounds.specs.Tables.{AreAllSlots};
+ghost use Rattle.tardiness_bounds.specs.Slots.{AreSlots};
+
+use crate::obstacles::Obstacles;
+use crate::rows::{Rows, row_place, way};
+use crate::slot::{Slot, slots_of};
+use code_table::Codes;
+use minkowski_obstacles::Obstacle;
+use shape_exact::NoMemory;
+use std::alloc::Global;
+use std::marker::Model;
+
+/// The slots of a block, the cheapest first.
+#[derive(Drop)]
+pub(crate) struct SlotList {
+    pub list: Vec<Slot>,
+}
+
+/// What is made once of a yard and lent to any number of frontiers: the slots of each block, the obstacles between the
+/// blocks' turned footprints and the footprints that may stand, and the rows of these obstacles. Contracts see it as the
+/// yard and the lists of slots.
+#[derive(Drop)]
+pub struct YardTables<'a> {
+    codes: &'a Codes,
+    slots: Vec<SlotList>,
+    obstacles: Obstacles,
+    rows: Rows,
+}
+
+impl<'a> Model for YardTables<'a> {
+    ghost use Rattle.tardiness_bounds.specs.Tables.{AreTables, PlainTables, lists_of};
+
+    ghost Value = { PlainTables };
+
+    ghost view = { λ s. record { yard = s.codes.now; slots = lists_of s.slots.items } };
+
+    ghost invariant = { λ s. AreTables s.codes.now s.slots.items s.obstacles.list.items s.rows.reach s.rows.list.items };
+}
+
+/// The slots of each block, by block.
+fn all_slots(alloc: Global, codes: &Codes) -> Result<Vec<SlotList>, NoMemory>
+    ensures { IfOk result (λ slots. AreAllSlots codes.now slots.items) }
+{
+    let blocks = codes.yard().blocks();
+    let mut slots = Vec::with_capacity(alloc, blocks.len())?;
+    for block in blocks {
+        let list = slots_of(alloc, codes, block)?;
+        slots.push(SlotList { list })?;
+    }
+    Ok(slots)
+}
+
+impl<'a> YardTables<'a> {
+    /// The slots, the obstacles and their rows of a yard. They take about 800 bytes for each pair of turned footprints, at
+    /// most 18 MB, 12 bytes for each row that is kept, at most 3 MB, and 12 bytes for each start of a block on a plate.
+    pub fn new(alloc: Global, codes: &'a Codes) -> Result<YardTables<'a>, NoMemory>
+        ensures { IfOk result (λ tables. tables.yard ≡ codes.now) }
+    {
+        let _yard = codes.yard();
+        let slots = all_slots(alloc, codes)?;
+        let obstacles = Obstacles::new(alloc, codes)?;
+        let rows = Rows::new(alloc, codes, obstacles.list.as_slice())?;
+        Ok(YardTables {
+            codes,
+            slots,
+            obstacles,
+            rows,
+        })
+    }
+
+    /// The codes of the yard.
+    pub fn codes(&self) -> &Codes
+        ensures { result.now ≡ self.now.yard }
+    {
+        self.codes
+    }
+
+    /// The slots of a block, the cheapest first.
+    pub(crate) fn slots(&self, block: u8) -> &[Slot]
+        requires { block < length self.now.yard.blocks }
+        ensures value { slice_get self.now.slots block ≡ Some result.now }
+        ensures all { (b : Block) → slice_get self.now.yard.blocks block ≡ Some b → AreSlots self.now.yard b result.now }
+    {
+        let slots = self.slots.as_slice();
+        slots[block as usize].list.as_slice()
+    }
+
+    /// The obstacle of a footprint that stands for a turned footprint of a block.
+    pub(crate) fn obstacle(&self, standing: u8, moving: u8) -> &Obstacle
+        requires standing { standing < footprint_count self.now.yard }
+        requires moving { moving < turned_count self.now.yard }
+        ensures { result.now ≡ pair_at self.now.yard standing moving }
+    {
+        let turned = self.codes().yard().blocks().len() * 4;
+        let list = self.obstacles.list.as_slice();
+        &list[standing as usize * turned + moving as usize]
+    }
+
+    /// A row of the obstacle of a footprint that stands for a turned footprint of a block, at the y of the block where the
+    /// other stands at its own: the least and the greatest x, from the x of the other; None where the row is empty.
+    pub(crate) fn row(&self, standing: u8, moving: u8, y: u16, at: u16) -> Option<(i32, i32)>
+        requires standing { standing < footprint_count self.now.yard }
+        requires moving { moving < turned_count self.now.yard }
+        ensures { IsRowOf (pair_at self.now.yard standing moving) (pos y -ℤ pos at) result }
+    {
+        let reach = self.rows.reach;
+        let Some(place) = row_place(reach, y, at) else {
+            return self.obstacle(standing, moving).row(way(y, at));
+        };
+        let turned = self.codes().yard().blocks().len() * 4;
+        let number = standing as usize * turned + moving as usize;
+        let rows = self.rows.list.as_slice();
+        rows[number * (reach as usize * 2 + 1) + place]
+    }
+}
