@@ -1,0 +1,9 @@
+pub mod ListLaws
+pub mod JobWordLaws
+pub mod SwapLaws
+pub mod PushLaws
+pub mod SeatLaws
+pub mod SettleLaws
+pub mod Settling
+pub mod SweptLaws
+pub mod TakenLaws
