@@ -1,0 +1,22 @@
+-- How a code of a block is covered beside a side.
+use Rattle.std.specs.Prelude.{◌≡◌, ℕ, Bool, List, option_to_list}
+use Rattle.plan_rule.specs.declared.literal.Literal.{Literal}
+use Rattle.plan_rule.specs.declared.job.Job.{Job}
+use Rattle.plan_rule.specs.Choices.{Choices}
+use Rattle.plan_rule.specs.Boxes.{exact, with_literal}
+use Rattle.branch_kernel.specs.declared.covering.Covered.{Covered}
+use Rattle.branch_kernel.specs.declared.covering.Coverage.{Coverage}
+use Rattle.branch_kernel.specs.declared.covering.Coverage.TheVariants.{Done, Open}
+use Rattle.branch_kernel.specs.States.{State}
+use Rattle.branch_kernel.specs.Nodes.{IsOpenBox}
+use Rattle.branch_kernel.specs.Shows.{IsHandledBy, AreCited}
+
+-- the code is handled beside whatever keeps the blocks that are needed, and what is cited for it is an earlier record
+abbrev pub CoversCode : Choices → State → State → List Literal → (ℕ → Bool) → ℕ → ℕ → Covered → Type 0
+CoversCode c start now side needs b code r =
+    IsHandledBy c start now r.tie side needs (option_to_list r.cite) b code × AreCited c start now r.tie (option_to_list r.cite)
+
+-- the code is covered, or the side with the code is an open box
+abbrev pub IsCoverage : Choices → Job → State → State → List Literal → (ℕ → Bool) → ℕ → ℕ → Coverage → Type 0
+IsCoverage c job start now side needs b code (Done r) = CoversCode c start now side needs b code r
+IsCoverage c job start now side needs b code (Open child) = (child ≡ with_literal side (exact b code)) × IsOpenBox c job child

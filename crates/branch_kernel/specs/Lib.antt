@@ -1,0 +1,14 @@
+pub mod Rivals
+pub mod States
+pub mod Known
+pub mod Boxes
+pub mod Marks
+pub mod Nodes
+pub mod Clean
+pub mod Stored
+pub mod Unbeaten
+pub mod Shows
+pub mod Growth
+pub mod Written
+pub mod Covers
+pub mod Bars
