@@ -13,3 +13,4 @@ pub mod EndLaws
 pub mod WindowLaws
 pub mod WalkLaws
 pub mod BarLaws
+pub mod MarkLaws

@@ -1,5 +1,5 @@
 //! Sets of blocks.
-ghost use Rattle.std.specs.Prelude.{◌≡◌, ◌<◌, ℕ, true};
+ghost use Rattle.std.specs.Prelude.{◌≡◌, ◌<◌, ℕ, true, false};
 ghost use Rattle.branch_kernel.specs.Marks.{MarksAll, has};
 
 use plan_rule::PlanBox;
@@ -23,7 +23,9 @@ impl Model for Blocks {
 
 impl Blocks {
     /// The set without a block.
-    pub fn none() -> Blocks {
+    pub fn none() -> Blocks
+        ensures { (b : ℕ) → has result b ≡ false }
+    {
         Blocks { marks: [false; 32] }
     }
 

@@ -77,7 +77,7 @@ fn verdict_of(
     Ok(Verdict::Refused(Refused::NotEmpty))
 }
 
-/// Why the plan may not stand, whatever the log: its first clash, or where there is none its first meeting with an exact
+/// Why the plan may not stand, whatever the log: its first clash, or where there is none its first meeting with a fixed
 /// piece; None where there is no plan, or it is feasible.
 fn plan_fault(codes: &Codes, plan: Option<&Plan>) -> Option<Refused>
     requires { IfSome plan (λ p. IsPlan (choices codes.now) p.now) }
@@ -95,8 +95,9 @@ fn plan_fault(codes: &Codes, plan: Option<&Plan>) -> Option<Refused>
 }
 
 /// Whether the log shows that the plan is the best, or where there is none that no plan is feasible; and if not, the
-/// first reason why it does not: a clash in the plan, then a meeting of the plan with a fixed piece, then the first record that is no step, by its form, its citations
-/// and what it should show, then that the last record does not refute every plan.
+/// first reason why it does not: a clash in the plan, then a meeting of the plan with a fixed piece, then the first record
+/// that is no step, by its form, its citations and what it should show, then that the last record does not refute every
+/// plan.
 ///
 /// Nothing is asked of who wrote the log. The only answer beside a verdict is want of memory.
 pub fn check(

@@ -69,14 +69,21 @@ dead cells pushed owner_id f j u fit other none' = ⊎_elim
     (λ (is : u.live ≡ false). ap (λ (x : View). weight_taken f x) (fit.spent is))
     (true_or_false u.live)
 
+-- where the owner has found each cell empty that it had pushed to, no cell has a job
+pub none_left : (cells : List ℕ) (views : List View) (id : ℕ) (v : View) → (h : IsDeque cells views) → get_elem? views id ≡ some v → v.owns ≡ true
+    → ((k : ℕ) → k < length v.pushed → Contains v.gone k) → (k : ℕ) → slice_index cells k ≡ 0
+none_left cells views id v h at owns' gone k =
+    let fit = h.fits id v at in
+    let own = fit.owner owns' in
+    dite (ℕ_discrete (slice_index cells k) 0) (λ e. e) (λ n.
+    let in' : k < length h.pushed = has_index h.pushed k (job_of (slice_index cells k - 1)) (h.full k n) in
+    absurd (n (All-contains (IsGone cells h.pushed) v.gone k fit.gone (gone k (subst (λ (l : List Job). k < length l) (sym own.1) in'))).1))
+
 pub settles : (slots id : ℕ) (me : Mine) → me.0.live ≡ true → me.0.owns ≡ true → me.0.parts ≡ 16 → ((k : ℕ) → k < length me.0.pushed → Contains me.0.gone k) → Allows Holds slots id me 0 (λ _. 0) (λ _ n. Settled me n)
 settles slots id me live owns' parts' gone s h _ at _ =
     let v = me.0 in
-    let fit = h.fits id v at in
-    let own = fit.owner owns' in
-    let empty : (k : ℕ) → slice_index s.words k ≡ 0 = λ k. dite (ℕ_discrete (slice_index s.words k) 0) (λ e. e) (λ n.
-    let in' : k < length h.pushed = has_index h.pushed k (job_of (slice_index s.words k - 1)) (h.full k n) in
-    absurd (n (All-contains (IsGone s.words h.pushed) v.gone k fit.gone (gone k (subst (λ (l : List Job). k < length l) (sym own.1) in'))).1)) in
+    let own = (h.fits id v at).owner owns' in
+    let empty = none_left s.words s.views id v h at owns' gone in
     let inside : 0 < length s.words = subst (λ n. 0 < n) (sym h.size) (omega arith) in
     let same : set s.words 0 0 ≡ s.words = set_again s.words 0 0 (at_index s.words 0 0 inside (sym (empty 0))) in
     let w = passed 0 v in (

@@ -12,7 +12,7 @@ mod rule;
 mod sweep;
 
 pub use deques::{Tally, deque, done};
-pub use laws::jobs_are_taken_once;
+pub use laws::{idle_owners_leave_none, jobs_are_taken_once};
 pub use owner::Owner;
 pub use reach::{Reach, Stolen};
 

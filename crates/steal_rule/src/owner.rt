@@ -66,7 +66,7 @@ impl Owner {
     }
 
     /// Takes the job of the first cell that has one, looking from cell 0 up; None where this call found all 64
-    /// empty. After a None no job that was pushed is left in the deque, as `done` says.
+    /// empty. After a None no job that was pushed is left in the deque, as `idle_owners_leave_none` says.
     pub fn pop(&mut self) -> Option<Job>
         ensures popped { IsPopped self.old result self.new }
         ensures job { IfSome result IsJob }

@@ -26,6 +26,7 @@ pub struct View {
     pub idle: bool,
 }
 
+/// The rule of a deque's cells.
 pub struct DequeRule;
 
 impl TableRule<(), View, ()> for DequeRule {
