@@ -1,6 +1,11 @@
 //! The checker of logs: whether a log shows that a plan is the best, or that no plan is feasible.
 //!
 //! It shares no code with a search. It walks the codes of each record and computes every bound for itself.
+//!
+//! `judge` gives the verdict (`verdict`), `steps` the first record that is no step, by its form (`form`), its citations and
+//! what it should show. A branch is asked code by code (`branch`, `uncovered`): the spans of codes that citations, the base
+//! and ties cover (`cited`, `cut`, `ties`, `span`), and walks over the others (`walk`) beside what stands near (`exact`,
+//! `near`). The bounds are `base`, `rest`, `fit` with `free`, and `energy` with `window`; `refute` says when one refutes.
 #![tactic(auto)]
 
 mod base;
