@@ -1,4 +1,6 @@
+pub mod Calls
 pub mod Desk
+pub mod MemoryDesk
 pub mod Quiet
 pub mod QuietDesk
 pub mod RealDesk

@@ -3,7 +3,7 @@ use Rattle.std.specs.Prelude.{ℕ}
 use Rattle.yard_io.specs.declared.real.RealDesk.{RealDesk}
 
 abbrev pub reads_of : {R : Type 0} → RealDesk R → ℕ
-reads_of desk = desk.read_faults
+reads_of desk = desk.faults.reads
 
 abbrev pub writes_of : {R : Type 0} → RealDesk R → ℕ
-writes_of desk = desk.write_faults
+writes_of desk = desk.faults.writes

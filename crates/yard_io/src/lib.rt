@@ -6,16 +6,21 @@
 //! system's files and standard output and tells nothing of their content. Lengths and places are bytes.
 #![tactic(auto)]
 
+mod calls;
 mod desk;
+mod faults;
 mod gate;
+mod memory;
 mod quiet;
 mod reading;
 mod real;
 mod saying;
 mod trouble;
 
+pub use calls::DeskCall;
 pub use desk::Desk;
 pub use gate::{Gate, OpenGate};
+pub use memory::MemoryDesk;
 pub use quiet::QuietDesk;
 pub use reading::{read_bytes, read_file};
 pub use real::RealDesk;

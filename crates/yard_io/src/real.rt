@@ -2,6 +2,7 @@
 ghost use Rattle.std.specs.Prelude.{◌≡◌, ◌≤◌, ◌<◌, length, IfOk, OnErr};
 ghost use Rattle.yard_io.specs.Desk.{Rose, IsPiece};
 
+use crate::faults::Faults;
 use crate::{Desk, Trouble};
 use std::fs::OpenOptions;
 use std::io::{Read, Seek, SeekFrom, Write};
@@ -14,8 +15,7 @@ use std::{fs, io};
 #[derive(Drop)]
 pub struct RealDesk<'a, R> {
     rt: &'a R,
-    read_faults: u64,
-    write_faults: u64,
+    faults: Faults,
 }
 
 impl<'a, R: Files + Print> RealDesk<'a, R> {
@@ -27,27 +27,8 @@ impl<'a, R: Files + Print> RealDesk<'a, R> {
     {
         RealDesk {
             rt,
-            read_faults: 0,
-            write_faults: 0,
+            faults: Faults::none(),
         }
-    }
-
-    fn read_fault(&mut self) -> Trouble
-        ensures later { reads_of self.old ≤ reads_of self.new }
-        ensures rose { Rose (reads_of self.old) (reads_of self.new) }
-        ensures other { writes_of self.old ≤ writes_of self.new }
-    {
-        self.read_faults = self.read_faults.saturating_add(1);
-        Trouble::Failed
-    }
-
-    fn write_fault(&mut self) -> Trouble
-        ensures later { writes_of self.old ≤ writes_of self.new }
-        ensures rose { Rose (writes_of self.old) (writes_of self.new) }
-        ensures other { reads_of self.old ≤ reads_of self.new }
-    {
-        self.write_faults = self.write_faults.saturating_add(1);
-        Trouble::Failed
     }
 }
 
@@ -87,7 +68,7 @@ impl<'a, R: Files + Print> Desk for RealDesk<'a, R> {
     {
         match fs::metadata(self.rt, name) {
             Ok(about) => Ok(about.len()),
-            Err(_) => Err(self.read_fault()),
+            Err(_) => Err(self.faults.of_reading()),
         }
     }
 
@@ -100,7 +81,7 @@ impl<'a, R: Files + Print> Desk for RealDesk<'a, R> {
     {
         match read_at(self.rt, name, at, buf) {
             Ok(n) if n > 0 => Ok(n),
-            _ => Err(self.read_fault()),
+            _ => Err(self.faults.of_reading()),
         }
     }
 
@@ -111,7 +92,7 @@ impl<'a, R: Files + Print> Desk for RealDesk<'a, R> {
     {
         match fs::create(self.rt, name) {
             Ok(_) => Ok(()),
-            Err(_) => Err(self.write_fault()),
+            Err(_) => Err(self.faults.of_writing()),
         }
     }
 
@@ -124,7 +105,7 @@ impl<'a, R: Files + Print> Desk for RealDesk<'a, R> {
     {
         match append_to(self.rt, name, bytes) {
             Ok(n) if n > 0 => Ok(n),
-            _ => Err(self.write_fault()),
+            _ => Err(self.faults.of_writing()),
         }
     }
 
@@ -137,7 +118,7 @@ impl<'a, R: Files + Print> Desk for RealDesk<'a, R> {
     {
         match self.rt.write_some(bytes) {
             Ok(n) if n > 0 => Ok(n),
-            _ => Err(self.write_fault()),
+            _ => Err(self.faults.of_writing()),
         }
     }
 }

@@ -1,4 +1,6 @@
 //! The desks at work.
+mod memory;
+
 use crate::{Desk, QuietDesk, RealDesk, Trouble, read_file, say_all};
 use std::fs;
 use std::test::Fail;
