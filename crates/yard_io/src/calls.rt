@@ -21,7 +21,7 @@ pub struct NumberedCall {
     pub number: u128,
 }
 
-/// How many calls of each kind were made. A number has room for more than any listed one, and stays at its greatest.
+/// How many calls of each kind were made. Each count stays at the greatest u128, which no listed call has as its number.
 #[derive(Clone, Copy, Debug)]
 pub struct Made {
     pub lengths: u128,
@@ -94,8 +94,7 @@ impl Failures {
 
     /// Lists one more call.
     pub fn list(&mut self, call: DeskCall, nth: u64) -> Result<(), NoMemory>
-        ensures listed { OnOk result
-            (self.new.listed.items ≡ self.old.listed.items ++ nth_call call nth ∷ []) }
+        ensures listed { OnOk result (self.new.listed.items ≡ self.old.listed.items ++ nth_call call nth ∷ []) }
         ensures err { OnErr result (self.new.listed.items ≡ self.old.listed.items) }
         ensures made { self.new.made ≡ self.old.made }
     {

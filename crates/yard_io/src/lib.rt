@@ -2,8 +2,9 @@
 //!
 //! A desk keeps files, each a list of bytes under a name, and the bytes that were said; a contract may cite what the
 //! desk tells of both. It keeps two counts of faults, of reading and of writing, and answers `Failed` only where the
-//! count of its kind rose in that call. `QuietDesk` keeps all in memory and never fails; `RealDesk` stands on the
-//! system's files and standard output and tells nothing of their content. Lengths and places are bytes.
+//! count of its kind rose in that call. `QuietDesk` keeps all in memory and never fails; `MemoryDesk` does so
+//! too, and its calls fail where they are listed; `RealDesk` stands on the system's files and standard output and tells
+//! nothing of their content. Lengths and places are bytes.
 #![tactic(auto)]
 
 mod calls;

@@ -9,9 +9,9 @@ use crate::{Desk, DeskCall, QuietDesk, Trouble};
 use shape_exact::NoMemory;
 use std::alloc::Global;
 
-/// Files and said bytes in memory, all told. A call answers `Failed` exactly where it is listed by `fail`, where it is a
-/// `length` or `read` of a missing file, or a `read` at or past the end; it then raises the count of its kind, and
-/// nothing else does. Each piece has at most `bite` bytes.
+/// Files and said bytes in memory, all told. Each piece has at most `bite` bytes. A call answers `Failed` exactly where it
+/// is listed by `fail`, or is a `length` or `read` of a missing file, or a `read` at or past the end. It then raises the
+/// count of its kind, and nothing else does.
 #[derive(Drop)]
 pub struct MemoryDesk {
     held: QuietDesk,
@@ -51,11 +51,10 @@ impl MemoryDesk {
         self.held.put(name, bytes)
     }
 
-    /// Lists a call to fail, by its kind and the number of calls of its kind before it since the desk was made. Want of
-    /// memory leaves the list as it was.
+    /// Lists the nth call of a kind to fail. Calls are numbered from 0, since the desk was made. Want of memory leaves the
+    /// list as it was.
     pub fn fail(&mut self, call: DeskCall, nth: u64) -> Result<(), NoMemory>
-        ensures listed { OnOk result
-            (failures_of self.new ≡ failures_of self.old ++ nth_call call nth ∷ []) }
+        ensures listed { OnOk result (failures_of self.new ≡ failures_of self.old ++ nth_call call nth ∷ []) }
         ensures err { OnErr result (failures_of self.new ≡ failures_of self.old) }
         ensures files { SameFiles (file_of self.old) (file_of self.new) }
         ensures said { said_of self.new ≡ said_of self.old }
@@ -158,8 +157,8 @@ impl Desk for MemoryDesk {
         requires { 0 < length bytes.now }
         ensures count { IfOk result (IsPiece bytes.now) }
         ensures piece { IfOk result (λ n. n ≡ min (bite_of self.old) (length bytes.now)) }
-        ensures made { IfOk result (λ n.
-            Sets true (file_of self.old) (file_of self.new) name.now (longer (file_of self.old name.now) (take n bytes.now))) }
+        ensures made { IfOk result (λ n. Sets true (file_of self.old) (file_of self.new) name.now
+            (longer (file_of self.old name.now) (take n bytes.now))) }
         ensures fails { IsErrOf result Trouble.Failed ↔ IsToFail self.old DeskCall.Append }
         ensures err { OnErr result (SameFiles (file_of self.old) (file_of self.new)) }
         ensures said { said_of self.new ≡ said_of self.old }
