@@ -47,3 +47,10 @@ few_blocks ds =
 
 unfoldable pub block_tables : Members → Result Items YardFault
 block_tables ms = tables_of keys.Block (value_in keys.Block ms) >>= few_blocks
+
+-- the tables of the fixed pieces, at most 48: Kind, TooManyFixed
+abbrev pub few_pieces : Items → Result Items YardFault
+few_pieces ds = if nat_lt 48 (count ds) then Err (faults.TooManyFixed (told (count ds))) else Ok ds
+
+unfoldable pub piece_tables : Members → Result Items YardFault
+piece_tables ms = tables_of keys.Fixed (value_in keys.Fixed ms) >>= few_pieces

@@ -1,4 +1,4 @@
--- The footprint of a block.
+-- The footprints of blocks and of fixed pieces.
 use Rattle.std.specs.Prelude.{ℕ, ℤ, Bool, true, ◌&&◌, is_some, List, [], ◌∷◌, Option, Some, None, Result, Ok, Err, if◌then◌else◌, unwrap_or}
 use Rattle.std.specs.Option.{option_and_then}
 use Rattle.toml.specs.Data.{Data, Items, no_items, item, as_array, as_integer}
@@ -7,6 +7,7 @@ use Rattle.shape_exact.specs.declared.shape.ShapeFault.{ShapeFault}
 use Rattle.shape_exact.specs.Shapes.{origin}
 use Rattle.shape_exact.specs.Reading.{shape_of}
 use Rattle.yard_file.specs.Values.{◌>>=◌, of_kind}
+use Rattle.yard_file.specs.declared.place.At.{At}
 use Rattle.yard_file.specs.declared.place.At.TheVariants as places
 use Rattle.yard_file.specs.declared.place.Key.TheVariants as keys
 use Rattle.yard_file.specs.declared.fault.YardFault.{YardFault}
@@ -35,17 +36,23 @@ abbrev pub points_of : Items → List Point
 points_of no_items = []
 points_of (item d ds) = unwrap_or (point_of d) origin ∷ points_of ds
 
--- the footprint of block i, or what is wrong with its points: Shape
-abbrev pub shape_or_fault : ℕ → Result (List Point) ShapeFault → Result (List Point) YardFault
-shape_or_fault i (Ok shape) = Ok shape
-shape_or_fault i (Err fault) = Err (faults.Shape i fault)
+-- the points of an array: Kind
+abbrev pub points_items : At → Items → Result (List Point) YardFault
+points_items at ds = if all_points ds then Ok (points_of ds) else Err (faults.Kind at keys.Shape)
 
--- the footprint of an array of points: Kind, Shape
-abbrev pub shape_items : ℕ → Items → Result (List Point) YardFault
-shape_items i ds =
-    if all_points ds then shape_or_fault i (shape_of (points_of ds)) else Err (faults.Kind (places.Block i) keys.Shape)
+abbrev pub points_in : At → Option Data → Result (List Point) YardFault
+points_in at None = Err (faults.Missing at keys.Shape)
+points_in at (Some d) = of_kind at keys.Shape (as_array d) >>= points_items at
+
+-- the footprint, or a rule that tells what is wrong with its points
+abbrev pub shape_or : (ShapeFault → YardFault) → Result (List Point) ShapeFault → Result (List Point) YardFault
+shape_or rule (Ok shape) = Ok shape
+shape_or rule (Err fault) = Err (rule fault)
 
 -- the footprint of block i: Missing, Kind, Shape
-abbrev pub shape_in : ℕ → Option Data → Result (List Point) YardFault
-shape_in i None = Err (faults.Missing (places.Block i) keys.Shape)
-shape_in i (Some d) = of_kind (places.Block i) keys.Shape (as_array d) >>= shape_items i
+abbrev pub block_shape : ℕ → Option Data → Result (List Point) YardFault
+block_shape i value = points_in (places.Block i) value >>= (λ points. shape_or (faults.Shape i) (shape_of points))
+
+-- the footprint of piece i before it is turned: Missing, Kind, FixedShape
+abbrev pub piece_shape : ℕ → Option Data → Result (List Point) YardFault
+piece_shape i value = points_in (places.Fixed i) value >>= (λ points. shape_or (faults.FixedShape i) (shape_of points))

@@ -1,33 +1,42 @@
 -- The keys that each table of a yard file may have.
-use Rattle.std.specs.Prelude.{ℕ, zero, suc, Bool, ◌||◌, ◌&&◌, List, [], ◌∷◌, codes, Option, Some, None, Result, Ok, Err, if◌then◌else◌, nat_le}
+use Rattle.std.specs.Prelude.{ℕ, zero, suc, Bool, ◌&&◌, List, [], ◌∷◌, Option, Some, None, Result, Ok, Err, if◌then◌else◌, nat_le, nat_lt}
 use Rattle.std.specs.Str.{bytes_eq, chars}
+use Rattle.std.specs.List.{list_any}
 use Rattle.std.specs.Ordering.{nat_cmp, is_lt}
 use Rattle.std.specs.Cmp.Lexicographic.{slice_cmp}
 use Rattle.arrayvec.specs.ArrayVec.{ArrayVec}
 use Rattle.toml.specs.Data.{Members, no_members, member}
+use Rattle.yard_file.specs.Places.{word}
 use Rattle.yard_file.specs.declared.place.At.{At}
-use Rattle.yard_file.specs.declared.place.At.TheVariants as places
+use Rattle.yard_file.specs.declared.place.Key.{Key}
+use Rattle.yard_file.specs.declared.place.Key.TheVariants as keys
 use Rattle.yard_file.specs.declared.fault.YardFault.{YardFault}
 use Rattle.yard_file.specs.declared.fault.YardFault.TheVariants as faults
 
--- a key of the top table, of a plate or of a block
-abbrev pub is_top_key : List ℕ → Bool
-is_top_key k = ((bytes_eq k (codes "version") || bytes_eq k (codes "days")) || bytes_eq k (codes "plate")) || bytes_eq k (codes "block")
+-- the keys of the top table: pieces that stand come with version 2
+abbrev pub top_keys : ℕ → List Key
+top_keys version =
+    if nat_lt version 2 then keys.Version ∷ keys.Days ∷ keys.Plate ∷ keys.Block ∷ []
+    else keys.Version ∷ keys.Days ∷ keys.Plate ∷ keys.Block ∷ keys.Fixed ∷ []
 
-abbrev pub is_plate_key : List ℕ → Bool
-is_plate_key k =
-    (((bytes_eq k (codes "name") || bytes_eq k (codes "width")) || bytes_eq k (codes "height")) || bytes_eq k (codes "pitch"))
-    || bytes_eq k (codes "closed")
+-- the keys of a plate
+abbrev pub plate_keys : List Key
+plate_keys = keys.Name ∷ keys.Width ∷ keys.Height ∷ keys.Pitch ∷ keys.Closed ∷ []
 
-abbrev pub is_block_key : List ℕ → Bool
-is_block_key k =
-    (((((bytes_eq k (codes "name") || bytes_eq k (codes "shape")) || bytes_eq k (codes "turns")) || bytes_eq k (codes "duration"))
-    || bytes_eq k (codes "release")) || bytes_eq k (codes "due")) || bytes_eq k (codes "weight")
+-- the keys of a block: a cost for being early comes with version 3
+abbrev pub block_keys : ℕ → List Key
+block_keys version =
+    if nat_lt version 3
+    then keys.Name ∷ keys.Shape ∷ keys.Turns ∷ keys.Duration ∷ keys.Release ∷ keys.Due ∷ keys.Weight ∷ []
+    else keys.Name ∷ keys.Shape ∷ keys.Turns ∷ keys.Duration ∷ keys.Release ∷ keys.Due ∷ keys.Weight ∷ keys.Early ∷ []
 
-abbrev pub is_known : At → List ℕ → Bool
-is_known places.Top k = is_top_key k
-is_known (places.Plate i) k = is_plate_key k
-is_known (places.Block i) k = is_block_key k
+-- the keys of a fixed piece
+abbrev pub piece_keys : List Key
+piece_keys = keys.Plate ∷ keys.Shape ∷ keys.Turn ∷ keys.X ∷ keys.Y ∷ keys.From ∷ keys.To ∷ []
+
+-- the bytes are one of the keys
+abbrev pub is_known : List Key → List ℕ → Bool
+is_known known k = list_any (λ key. bytes_eq (word key) k) known
 
 -- the keys of a table
 abbrev pub keys_in : Members → List (List ℕ)
@@ -68,5 +77,5 @@ abbrev pub no_unknown : At → Option (List ℕ) → Result (Unit {0}) YardFault
 no_unknown at None = Ok tt
 no_unknown at (Some k) = Err (faults.Unknown at (shown_word k))
 
-unfoldable pub known_keys : At → Members → Result (Unit {0}) YardFault
-known_keys at ms = no_unknown at (least_unknown (is_known at) (keys_in ms))
+unfoldable pub known_keys : At → List Key → Members → Result (Unit {0}) YardFault
+known_keys at known ms = no_unknown at (least_unknown (is_known known) (keys_in ms))

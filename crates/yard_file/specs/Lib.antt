@@ -1,5 +1,6 @@
 pub mod Arrays
 pub mod Blocks
+pub mod Clashes
 pub mod Closed
 pub mod Distinct
 pub mod Documents
@@ -8,6 +9,7 @@ pub mod Held
 pub mod Keys
 pub mod Lines
 pub mod Names
+pub mod Pieces
 pub mod Places
 pub mod Plates
 pub mod Reads

@@ -49,6 +49,12 @@ words_of (faults.Day i fault) = codes "refused yard 14 Day" ∷ at_text (places.
 words_of (faults.Shape i fault) = codes "refused yard 15 Shape" ∷ at_text (places.Block i) ∷ shape_words fault
 words_of (faults.Turn i n) = codes "refused yard 16 Turn" ∷ at_text (places.Block i) ∷ decimal n ∷ []
 words_of (faults.TooManyPlacements b n) = codes "refused yard 17 TooManyPlacements" ∷ decimal b ∷ decimal n ∷ []
+words_of (faults.TooManyFixed n) = codes "refused yard 19 TooManyFixed" ∷ decimal n ∷ []
+words_of (faults.FixedPlate i) = codes "refused yard 20 FixedPlate" ∷ decimal i ∷ []
+words_of (faults.FixedShape i fault) = codes "refused yard 21 FixedShape" ∷ at_text (places.Fixed i) ∷ shape_words fault
+words_of (faults.FixedDays i) = codes "refused yard 22 FixedDays" ∷ decimal i ∷ []
+words_of (faults.FixedOutside i) = codes "refused yard 23 FixedOutside" ∷ decimal i ∷ []
+words_of (faults.FixedClash j i) = codes "refused yard 24 FixedClash" ∷ decimal j ∷ decimal i ∷ []
 words_of faults.Memory = []
 
 -- the line of a fault, and nothing for want of memory

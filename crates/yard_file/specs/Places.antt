@@ -10,6 +10,7 @@ abbrev pub at_text : At → List ℕ
 at_text places.Top = codes "top"
 at_text (places.Plate i) = codes "plate " ++ decimal i
 at_text (places.Block i) = codes "block " ++ decimal i
+at_text (places.Fixed i) = codes "fixed " ++ decimal i
 
 -- a key as it stands in a file
 abbrev pub word : Key → List ℕ
@@ -28,3 +29,10 @@ word keys.Duration = codes "duration"
 word keys.Release = codes "release"
 word keys.Due = codes "due"
 word keys.Weight = codes "weight"
+word keys.Early = codes "early"
+word keys.Fixed = codes "fixed"
+word keys.Turn = codes "turn"
+word keys.X = codes "x"
+word keys.Y = codes "y"
+word keys.From = codes "from"
+word keys.To = codes "to"

@@ -4,7 +4,7 @@ use Rattle.toml.specs.Data.{Data, Items, no_items, item, Members, as_table}
 use Rattle.shape_exact.specs.Yards.{plate_names}
 use Rattle.shape_exact.specs.declared.plate.Plate.{Plate}
 use Rattle.yard_file.specs.Values.{◌>>=◌, of_kind, value_in, number_in, optional_in}
-use Rattle.yard_file.specs.Keys.{known_keys}
+use Rattle.yard_file.specs.Keys.{known_keys, plate_keys}
 use Rattle.yard_file.specs.Names.{name_in}
 use Rattle.yard_file.specs.Closed.{closed_in}
 use Rattle.yard_file.specs.declared.place.At.TheVariants as places
@@ -14,7 +14,7 @@ use Rattle.yard_file.specs.declared.fault.YardFault.{YardFault}
 -- the rules of plate i after plates with these names, in their order, and the plate where none is broken
 unfoldable pub plate_rules : ℕ → ℕ → List (List ℕ) → Members → Result Plate YardFault
 plate_rules days i earlier ms = do
-  known ← known_keys (places.Plate i) ms
+  known ← known_keys (places.Plate i) plate_keys ms
   name ← name_in (places.Plate i) earlier (value_in keys.Name ms)
   width ← number_in (places.Plate i) keys.Width 1 400 ms
   height ← number_in (places.Plate i) keys.Height 1 400 ms

@@ -1,7 +1,7 @@
 //! Reads arrays of tables.
 ghost use Rattle.std.specs.Prelude.{◌≡◌, ◌≤◌, IfOk, length};
 ghost use Rattle.toml.specs.View.{items_view, table_view};
-ghost use Rattle.yard_file.specs.Arrays.{all_tables, block_tables, plate_tables, tables_of, told};
+ghost use Rattle.yard_file.specs.Arrays.{all_tables, block_tables, piece_tables, plate_tables, tables_of, told};
 ghost use Rattle.yard_file.specs.Values.{value_in, viewed};
 
 use crate::value::value_at;
@@ -74,6 +74,19 @@ pub fn block_tables(table: &Table) -> Result<&[Value], YardFault>
     }
     if items.len() > 32 {
         return Err(YardFault::TooManyBlocks(told(items.len())));
+    }
+    Ok(items)
+}
+
+/// The tables of the fixed pieces, at most 48.
+#[tactic(auto, unfolding(crate::specs::Arrays::piece_tables), using(crate::proofs::ItemLaws::count_items))]
+pub fn piece_tables(table: &Table) -> Result<&[Value], YardFault>
+    ensures value { viewed (λ s. items_view s.now) result ≡ piece_tables (table_view table.now) }
+    ensures few { IfOk result (λ s. length s.now ≤ 48) }
+{
+    let items = tables_at(table, Key::Fixed)?;
+    if items.len() > 48 {
+        return Err(YardFault::TooManyFixed(told(items.len())));
     }
     Ok(items)
 }

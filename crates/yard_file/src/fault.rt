@@ -1,5 +1,5 @@
 //! Why a file is refused, and the line that says so.
-ghost use Rattle.std.specs.Prelude.{◌≡◌, ◌∷◌, [], IfOk, codes};
+ghost use Rattle.std.specs.Prelude.{◌≡◌, ◌∷◌, [], IfOk, codes, decimal};
 ghost use Rattle.yard_file.specs.Places.{at_text};
 ghost use Rattle.yard_file.specs.Lines.{day_words, line, line_of, shape_words};
 
@@ -12,8 +12,8 @@ use std::alloc::Global;
 /// An unknown key: its first 32 characters, each that is not printable ASCII replaced by `?`.
 pub type Word = ArrayVec<u8, 32>;
 
-/// The first rule that a file breaks, in the order of `docs/FORMATS.md`. Plates, blocks and items of arrays are numbered
-/// from 0; a count of more than 4,294,967,295 tables is told as that number.
+/// The first rule that a file breaks, in the order of `docs/FORMATS.md`. Plates, blocks, fixed pieces and items of
+/// arrays are numbered from 0; a count of more than 4,294,967,295 tables is told as that number.
 #[derive(Clone, Debug, Drop, PartialEq, Eq)]
 pub enum YardFault {
     TooLong,
@@ -33,6 +33,12 @@ pub enum YardFault {
     Shape(u8, ShapeFault),
     Turn(u8, u32),
     TooManyPlacements(u8, u64),
+    TooManyFixed(u32),
+    FixedPlate(u8),
+    FixedShape(u8, ShapeFault),
+    FixedDays(u8),
+    FixedOutside(u8),
+    FixedClash(u8, u8),
     Memory,
 }
 
@@ -72,6 +78,13 @@ fn shape_line(alloc: Global, head: &str, at: At, fault: ShapeFault) -> Result<Ve
     Ok(text.into_bytes())
 }
 
+/// The line of a fault with one number; `head` is the fault's own number and its name.
+fn number_line(alloc: Global, head: &str, number: u32) -> Result<Vec<u8>, NoMemory>
+    ensures { IfOk result (λ text. text.items ≡ line_of (head.now ∷ decimal number ∷ [])) }
+{
+    Ok(format!(in alloc; "{head} {number}\n")?.into_bytes())
+}
+
 impl YardFault {
     /// The line that tells the fault; nothing for want of memory.
     pub fn line(&self, alloc: Global) -> Result<Vec<u8>, NoMemory>
@@ -90,11 +103,17 @@ impl YardFault {
                 "refused yard 7 Number {at} {key} {n}\n"
             )?,
             YardFault::NoPlate => format!(in alloc; "refused yard 8 NoPlate\n")?,
-            YardFault::TooManyPlates(n) => format!(in alloc; "refused yard 9 TooManyPlates {n}\n")?,
+            YardFault::TooManyPlates(n) => return number_line(
+                alloc,
+                "refused yard 9 TooManyPlates",
+                *n,
+            ),
             YardFault::NoBlock => format!(in alloc; "refused yard 10 NoBlock\n")?,
-            YardFault::TooManyBlocks(n) => format!(in alloc;
-                "refused yard 11 TooManyBlocks {n}\n"
-            )?,
+            YardFault::TooManyBlocks(n) => return number_line(
+                alloc,
+                "refused yard 11 TooManyBlocks",
+                *n,
+            ),
             YardFault::NameTwice(at) => format!(in alloc; "refused yard 12 NameTwice {at}\n")?,
             YardFault::BadName(at) => format!(in alloc; "refused yard 13 BadName {at}\n")?,
             YardFault::Day(i, fault) => return day_line(alloc, At::Plate(*i), *fault),
@@ -107,6 +126,35 @@ impl YardFault {
             YardFault::Turn(i, n) => format!(in alloc; "refused yard 16 Turn block {i} {n}\n")?,
             YardFault::TooManyPlacements(b, n) => format!(in alloc;
                 "refused yard 17 TooManyPlacements {b} {n}\n"
+            )?,
+            YardFault::TooManyFixed(n) => return number_line(
+                alloc,
+                "refused yard 19 TooManyFixed",
+                *n,
+            ),
+            YardFault::FixedPlate(i) => return number_line(
+                alloc,
+                "refused yard 20 FixedPlate",
+                u32::from(*i),
+            ),
+            YardFault::FixedShape(i, fault) => return shape_line(
+                alloc,
+                "refused yard 21 FixedShape",
+                At::Fixed(*i),
+                *fault,
+            ),
+            YardFault::FixedDays(i) => return number_line(
+                alloc,
+                "refused yard 22 FixedDays",
+                u32::from(*i),
+            ),
+            YardFault::FixedOutside(i) => return number_line(
+                alloc,
+                "refused yard 23 FixedOutside",
+                u32::from(*i),
+            ),
+            YardFault::FixedClash(j, i) => format!(in alloc;
+                "refused yard 24 FixedClash {j} {i}\n"
             )?,
             YardFault::Memory => String::new(alloc),
         };

@@ -2,7 +2,8 @@
 ghost use Rattle.std.specs.Prelude.{◌≡◌, ◌≤◌, [], length, option_map};
 ghost use Rattle.toml.specs.View.{view, items_view};
 ghost use Rattle.shape_exact.specs.Reading.{shape_of};
-ghost use Rattle.yard_file.specs.Footprints.{all_points, point_of, points_of, shape_in, shape_items};
+ghost use Rattle.yard_file.specs.Footprints.{all_points, block_shape, piece_shape, point_of, points_in, points_items, points_of};
+ghost use Rattle.yard_file.specs.Values.{viewed};
 ghost use Rattle.yard_file.specs.Held.{held, held_at, held_from};
 
 use crate::{At, Key, YardFault};
@@ -80,28 +81,46 @@ fn footprint(items: &[Value]) -> Result<Shape, ShapeFault>
     Shape::read(held_points(items).as_slice())
 }
 
-/// The footprint of an array.
-fn read_shape(items: &[Value], block: u8) -> Result<Shape, YardFault>
-    ensures { result ≡ shape_items block (items_view items.now) }
+/// The items, where every one is a point.
+fn only_points(items: &[Value], at: At) -> Result<&[Value], YardFault>
+    ensures { viewed (λ s. points_of (items_view s.now)) result ≡ points_items at (items_view items.now) }
 {
-    if !all_points(items) {
-        return Err(YardFault::Kind(At::Block(block), Key::Shape));
+    if all_points(items) {
+        Ok(items)
+    } else {
+        Err(YardFault::Kind(at, Key::Shape))
     }
-    match footprint(items) {
+}
+
+/// The items of an array of points.
+fn points_at(value: Option<&Value>, at: At) -> Result<&[Value], YardFault>
+    ensures { viewed (λ s. points_of (items_view s.now)) result ≡ points_in at (option_map (λ v. view v.now) value.entry) }
+{
+    let Some(value) = value else {
+        return Err(YardFault::Missing(at, Key::Shape));
+    };
+    match value.as_array() {
+        Some(items) => only_points(items.as_slice(), at),
+        None => Err(YardFault::Kind(at, Key::Shape)),
+    }
+}
+
+/// The footprint of a block.
+pub fn block_shape(value: Option<&Value>, block: u8) -> Result<Shape, YardFault>
+    ensures { result ≡ block_shape block (option_map (λ v. view v.now) value.entry) }
+{
+    match footprint(points_at(value, At::Block(block))?) {
         Ok(shape) => Ok(shape),
         Err(fault) => Err(YardFault::Shape(block, fault)),
     }
 }
 
-/// The footprint of a block.
-pub fn shape_of(value: Option<&Value>, block: u8) -> Result<Shape, YardFault>
-    ensures { result ≡ shape_in block (option_map (λ v. view v.now) value.entry) }
+/// The footprint of a fixed piece before it is turned.
+pub fn piece_shape(value: Option<&Value>, piece: u8) -> Result<Shape, YardFault>
+    ensures { result ≡ piece_shape piece (option_map (λ v. view v.now) value.entry) }
 {
-    let Some(value) = value else {
-        return Err(YardFault::Missing(At::Block(block), Key::Shape));
-    };
-    match value.as_array() {
-        Some(items) => read_shape(items.as_slice(), block),
-        None => Err(YardFault::Kind(At::Block(block), Key::Shape)),
+    match footprint(points_at(value, At::Fixed(piece))?) {
+        Ok(shape) => Ok(shape),
+        Err(fault) => Err(YardFault::FixedShape(piece, fault)),
     }
 }

@@ -2,51 +2,42 @@
 ghost use Rattle.std.specs.Prelude.{◌≡◌, option_map};
 ghost use Rattle.std.specs.Str.{chars};
 ghost use Rattle.toml.specs.View.{table_view};
-ghost use Rattle.yard_file.specs.Keys.{first_unknown, is_known, keys_in, known_keys, least_unknown, shown, shown_characters};
+ghost use Rattle.yard_file.specs.Keys.{block_keys, first_unknown, is_known, keys_in, known_keys, least_unknown, shown, shown_characters, top_keys};
 
-use crate::{At, Word, YardFault};
+use crate::{At, Key, Word, YardFault};
 use toml::Table;
 
-/// Whether the table may have the key.
-fn is_known(at: At, key: &str) -> bool
-    ensures { result ≡ is_known at key.now }
+/// Whether the text is one of the keys.
+fn is_known(keys: &[Key], text: &str) -> bool
+    ensures { result ≡ is_known keys.now text.now }
 {
-    match at {
-        At::Top => key == "version" || key == "days" || key == "plate" || key == "block",
-        At::Plate(_) => {
-            key == "name" || key == "width" || key == "height" || key == "pitch" || key == "closed"
-        }
-        At::Block(_) => {
-            key == "name"
-                || key == "shape"
-                || key == "turns"
-                || key == "duration"
-                || key == "release"
-                || key == "due"
-                || key == "weight"
+    for key in keys {
+        if key.word() == text {
+            return true;
         }
     }
+    false
 }
 
-/// The first key, as the table has them, that it may not have.
+/// The first key, as the table has them, that is none of these.
 #[tactic(auto, using(crate::proofs::KeyLaws::keys_in_view))]
-fn first_unknown(table: &Table, at: At) -> Option<&str>
-    ensures { option_map (λ k. k.now) result ≡ first_unknown (is_known at) (keys_in (table_view table.now)) }
+fn first_unknown<'a>(table: &'a Table, keys: &[Key]) -> Option<&'a str>
+    ensures { option_map (λ k. k.now) result ≡ first_unknown (is_known keys.now) (keys_in (table_view table.now)) }
 {
     for key in table.keys() {
-        if !is_known(at, key.as_str()) {
+        if !is_known(keys, key.as_str()) {
             return Some(key.as_str());
         }
     }
     None
 }
 
-/// The least key by its bytes that the table may not have.
-fn least_unknown(table: &Table, at: At) -> Option<&str>
-    ensures { option_map (λ k. k.now) result ≡ least_unknown (is_known at) (keys_in (table_view table.now)) }
+/// The least key by its bytes that is none of these.
+fn least_unknown<'a>(table: &'a Table, keys: &[Key]) -> Option<&'a str>
+    ensures { option_map (λ k. k.now) result ≡ least_unknown (is_known keys.now) (keys_in (table_view table.now)) }
 {
     let _count = table.len();
-    first_unknown(table, at)
+    first_unknown(table, keys)
 }
 
 /// How a character of an unknown key is shown.
@@ -70,13 +61,52 @@ fn shown_word(key: &str) -> Word
     word
 }
 
-/// The rule that the table has no key but those of its kind.
+/// The rule that the table has none but these keys.
 #[tactic(auto, unfolding(crate::specs::Keys::known_keys))]
-pub fn known_keys(table: &Table, at: At) -> Result<(), YardFault>
-    ensures { result ≡ known_keys at (table_view table.now) }
+pub fn known_keys(table: &Table, at: At, keys: &[Key]) -> Result<(), YardFault>
+    ensures { result ≡ known_keys at keys.now (table_view table.now) }
 {
-    match least_unknown(table, at) {
+    match least_unknown(table, keys) {
         None => Ok(()),
         Some(key) => Err(YardFault::Unknown(at, shown_word(key))),
+    }
+}
+
+/// The keys of the top table: pieces that stand come with version 2.
+pub fn top_keys(version: u8) -> &'static [Key]
+    ensures { result.now ≡ top_keys version }
+{
+    if version < 2 {
+        &[Key::Version, Key::Days, Key::Plate, Key::Block]
+    } else {
+        &[Key::Version, Key::Days, Key::Plate, Key::Block, Key::Fixed]
+    }
+}
+
+/// The keys of a block: a cost for being early comes with version 3.
+pub fn block_keys(version: u8) -> &'static [Key]
+    ensures { result.now ≡ block_keys version }
+{
+    if version < 3 {
+        &[
+            Key::Name,
+            Key::Shape,
+            Key::Turns,
+            Key::Duration,
+            Key::Release,
+            Key::Due,
+            Key::Weight,
+        ]
+    } else {
+        &[
+            Key::Name,
+            Key::Shape,
+            Key::Turns,
+            Key::Duration,
+            Key::Release,
+            Key::Due,
+            Key::Weight,
+            Key::Early,
+        ]
     }
 }

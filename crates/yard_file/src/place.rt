@@ -4,12 +4,13 @@ ghost use Rattle.yard_file.specs.Places.{at_text, word};
 
 use std::fmt;
 
-/// A table of a yard file: the top one, or a plate or a block by its number, counted from 0.
+/// A table of a yard file: the top one, or a plate, a block or a fixed piece by its number, counted from 0.
 #[derive(Clone, Copy, Debug, PartialEq, Eq)]
 pub enum At {
     Top,
     Plate(u8),
     Block(u8),
+    Fixed(u8),
 }
 
 /// A key of a yard file.
@@ -30,6 +31,13 @@ pub enum Key {
     Release,
     Due,
     Weight,
+    Early,
+    Fixed,
+    Turn,
+    X,
+    Y,
+    From,
+    To,
 }
 
 impl Key {
@@ -53,6 +61,13 @@ impl Key {
             Key::Release => "release",
             Key::Due => "due",
             Key::Weight => "weight",
+            Key::Early => "early",
+            Key::Fixed => "fixed",
+            Key::Turn => "turn",
+            Key::X => "x",
+            Key::Y => "y",
+            Key::From => "from",
+            Key::To => "to",
         }
     }
 }
@@ -65,6 +80,7 @@ impl fmt::Display for At {
             At::Top => write!(f, "top"),
             At::Plate(i) => write!(f, "plate {i}"),
             At::Block(i) => write!(f, "block {i}"),
+            At::Fixed(i) => write!(f, "fixed {i}"),
         }
     }
 }

@@ -22,7 +22,11 @@ fn table_plate(table: &Table, days: u16, i: u8, earlier: &[Plate]) -> Result<Pla
     ensures new { IfOk result (λ p. has_name (plate_names earlier.now) p.name ≡ false) }
 {
     let at = At::Plate(i);
-    known_keys(table, at)?;
+    known_keys(
+        table,
+        at,
+        &[Key::Name, Key::Width, Key::Height, Key::Pitch, Key::Closed],
+    )?;
     let name = plate_name(value_at(table, Key::Name), at, earlier)?;
     let width = number_at(table, at, Key::Width, 1, 400)?;
     let height = number_at(table, at, Key::Height, 1, 400)?;

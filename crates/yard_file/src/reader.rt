@@ -3,10 +3,11 @@ ghost use Rattle.std.specs.Prelude.{◌≡◌};
 ghost use Rattle.toml.specs.View.{table_view};
 ghost use Rattle.yard_file.specs.Reads.{rules, sized, version_in, yard_of, Gives};
 
-use crate::arrays::{block_tables, plate_tables};
+use crate::arrays::{block_tables, piece_tables, plate_tables};
 use crate::blocks::add_blocks;
 use crate::document::document_of;
-use crate::keys::known_keys;
+use crate::keys::{known_keys, top_keys};
+use crate::pieces::add_pieces;
 use crate::plates::add_plates;
 use crate::sizes::first_too_many;
 use crate::value::{integer_at, number_at};
@@ -15,16 +16,15 @@ use shape_exact::Yard;
 use std::alloc::Global;
 use toml::Table;
 
-/// The version of the file.
+/// The version of the file, 1 to 3.
 #[tactic(auto, unfolding(crate::specs::Reads::version_in))]
-fn version_of(table: &Table) -> Result<i64, YardFault>
+fn version_of(table: &Table) -> Result<u8, YardFault>
     ensures { result ≡ version_in (table_view table.now) }
 {
     let number = integer_at(table, At::Top, Key::Version)?;
-    if number == 1 {
-        Ok(number)
-    } else {
-        Err(YardFault::Version(number))
+    match u8::try_from(number) {
+        Ok(version) if 1 <= version && version <= 3 => Ok(version),
+        _ => Err(YardFault::Version(number)),
     }
 }
 
@@ -43,13 +43,15 @@ fn sized(yard: Yard) -> Result<Yard, YardFault>
 fn table_yard(table: &Table) -> Result<Yard, YardFault>
     ensures { result ≡ rules (table_view table.now) }
 {
-    let _version = version_of(table)?;
-    known_keys(table, At::Top)?;
+    let version = version_of(table)?;
+    known_keys(table, At::Top, top_keys(version))?;
     let days = number_at(table, At::Top, Key::Days, 1, 400)?;
     let plate_items = plate_tables(table)?;
     let block_items = block_tables(table)?;
+    let piece_items = piece_tables(table)?;
     let yard = add_plates(Yard::start(days), plate_items)?;
-    let yard = add_blocks(yard, block_items)?;
+    let yard = add_blocks(yard, block_items, version)?;
+    let yard = add_pieces(yard, piece_items)?;
     sized(yard)
 }
 

@@ -1,6 +1,7 @@
 //! Texts of yard files and what they are read as.
 
 mod block_faults;
+mod piece_faults;
 mod refusals;
 mod top_faults;
 mod two_faults;
@@ -29,6 +30,14 @@ const PLATE: &str = "{name='P',width=4,height=3}";
 const BLOCK: &str = "{name='A',shape=[[0,0],[2,0],[2,2],[0,2]],duration=2,due=1}";
 
 const UNIT: &str = "{name='A',shape=[[0,0],[1,0],[1,1],[0,1]],duration=1,due=1}";
+
+const TOUCHING: &str = "version=2
+days=10
+fixed=[
+    {plate='P',shape=[[0,0],[2,0],[2,2],[0,2]],x=0,y=0,from=0,to=1},
+    {plate='P',shape=[[0,0],[2,0],[2,2],[0,2]],x=2,y=1,from=0,to=9},
+    {plate='P',shape=[[0,0],[2,0],[2,2],[0,2]],x=0,y=0,from=2,to=2},
+]";
 
 #[test]
 fn reads_the_yard(rt: HostRuntime) -> Result<(), Fail> {
@@ -94,6 +103,13 @@ fn takes_what_is_within_the_limits(rt: HostRuntime) -> Result<(), Fail> {
             PLATE,
             "{name='A',shape=[[0,0],[0,2],[1,2],[2,2],[2,0]],duration=400,release=399,due=399,weight=0,turns=[3,0]}",
         ),
+        ("version=2\ndays=10\nfixed=[]", PLATE, BLOCK),
+        (TOUCHING, PLATE, BLOCK),
+        (
+            "version=3\ndays=10",
+            PLATE,
+            "{name='A',shape=[[0,0],[2,0],[0,2]],duration=2,due=1,early=1000},{name='B',shape=[[0,0],[2,0],[0,2]],duration=2,due=1,early=0}",
+        ),
     ] {
         let text = text_of(rt.alloc(), head, plates, blocks)?;
         let read = read_yard(rt.alloc(), text.as_bytes());
@@ -132,7 +148,7 @@ fn says_the_refusal(rt: HostRuntime) -> Result<(), Fail> {
         "{name='P',width=64,height=65}",
         UNIT,
     )?;
-    let long = vec![in rt.alloc(); b' '; 1_048_577]?;
+    let long = vec![in rt.alloc(); b'='; 1_048_577]?;
     for (bytes, line) in [
         (long.as_slice(), "refused yard 1 TooLong\n"),
         (
@@ -155,6 +171,33 @@ fn says_the_refusal(rt: HostRuntime) -> Result<(), Fail> {
             Err(fault) => fault.line(rt.alloc())?,
         };
         assert_eq!(rt; said.as_slice(), line.as_bytes());
+    }
+    Ok(())
+}
+
+#[test]
+fn reads_a_turned_piece_and_an_early_cost(rt: HostRuntime) -> Result<(), Fail> {
+    let text = text_of(
+        rt.alloc(),
+        "version=3
+days=10
+fixed=[{plate='Q',shape=[[0,0],[2,0],[0,1]],turn=1,x=3,y=1,from=4,to=9}]",
+        "{name='P',width=4,height=3},{name='Q',width=4,height=3}",
+        "{name='A',shape=[[0,0],[2,0],[0,2]],duration=2,due=1,early=7}",
+    )?;
+    let yard = read_yard(rt.alloc(), text.as_bytes())?;
+    assert_eq!(rt; yard.fixed().len(), 1);
+    for piece in yard.fixed() {
+        assert_eq!(rt;
+            (piece.plate, piece.x, piece.y, piece.from, piece.to),
+            (1, 3, 1, 4, 9)
+        );
+        for (point, (x, y)) in piece.shape.points().iter().zip([(1, 0), (1, 2), (0, 0)]) {
+            assert_eq!(rt; (point.x, point.y), (x, y));
+        }
+    }
+    for block in yard.blocks() {
+        assert_eq!(rt; (block.weight, block.early), (1, 7));
     }
     Ok(())
 }

@@ -3,7 +3,7 @@
 use super::refusals::Row;
 use super::{HEAD, PLATE};
 
-pub const BLOCK_FAULTS: [Row; 35] = [
+pub const BLOCK_FAULTS: [Row; 38] = [
     (
         HEAD,
         PLATE,
@@ -213,5 +213,23 @@ pub const BLOCK_FAULTS: [Row; 35] = [
         PLATE,
         "{name='A',shape=[[0,0],[2,0],[0,2]],duration=2,due=1,weight=1001}",
         "7 Number block 0 weight 1001",
+    ),
+    (
+        "version=2\ndays=10",
+        PLATE,
+        "{name='A',shape=[[0,0],[2,0],[0,2]],duration=2,due=1,early=1}",
+        "4 Unknown block 0 early",
+    ),
+    (
+        "version=3\ndays=10",
+        PLATE,
+        "{name='A',shape=[[0,0],[2,0],[0,2]],duration=2,due=1,early='1'}",
+        "5 Kind block 0 early",
+    ),
+    (
+        "version=3\ndays=10",
+        PLATE,
+        "{name='A',shape=[[0,0],[2,0],[0,2]],duration=2,due=1,early=1001}",
+        "7 Number block 0 early 1001",
     ),
 ];

@@ -1,6 +1,8 @@
-//! Texts of yard files with broken rules, and the line that each is refused with.
+//! Texts of yard files with one broken rule, or with two that are neighbours in the order, and the line that each is
+//! refused with.
 
 use super::block_faults::BLOCK_FAULTS;
+use super::piece_faults::PIECE_FAULTS;
 use super::text_of;
 use super::top_faults::TOP_FAULTS;
 use super::two_faults::TWO_FAULTS;
@@ -24,25 +26,16 @@ fn is_told(alloc: Global, row: Row) -> Result<bool, Fail> {
 }
 
 #[test]
-fn tells_the_broken_rule_of_the_top_or_a_plate(rt: HostRuntime) -> Result<(), Fail> {
-    for row in TOP_FAULTS {
-        assert!(rt; is_told(rt.alloc(), row)?, "{}", row.3);
-    }
-    Ok(())
-}
-
-#[test]
-fn tells_the_broken_rule_of_a_block(rt: HostRuntime) -> Result<(), Fail> {
-    for row in BLOCK_FAULTS {
-        assert!(rt; is_told(rt.alloc(), row)?, "{}", row.3);
-    }
-    Ok(())
-}
-
-#[test]
-fn tells_the_earlier_of_two(rt: HostRuntime) -> Result<(), Fail> {
-    for row in TWO_FAULTS {
-        assert!(rt; is_told(rt.alloc(), row)?, "{}", row.3);
+fn tells_the_first_broken_rule(rt: HostRuntime) -> Result<(), Fail> {
+    for rows in [
+        TOP_FAULTS.as_slice(),
+        BLOCK_FAULTS.as_slice(),
+        PIECE_FAULTS.as_slice(),
+        TWO_FAULTS.as_slice(),
+    ] {
+        for row in rows {
+            assert!(rt; is_told(rt.alloc(), *row)?, "{}", row.3);
+        }
     }
     Ok(())
 }

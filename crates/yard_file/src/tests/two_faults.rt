@@ -1,9 +1,9 @@
 //! Two faults each, neighbours in the order of the rules: the earlier one is told.
 
 use super::refusals::Row;
-use super::{BLOCK, HEAD, PLATE};
+use super::{BLOCK, HEAD, PLATE, UNIT};
 
-pub const TWO_FAULTS: [Row; 27] = [
+pub const TWO_FAULTS: [Row; 46] = [
     ("crane=1", PLATE, BLOCK, "3 Missing top version"),
     ("version=9\ncrane=1", PLATE, BLOCK, "6 Version 9"),
     ("version=1\ncrane=1", PLATE, BLOCK, "4 Unknown top crane"),
@@ -105,5 +105,109 @@ pub const TWO_FAULTS: [Row; 27] = [
         "{name='P',width=64,height=65}",
         "{name='A',shape=[[0,0],[1,0],[1,1],[0,1]],duration=1,due=1},{}",
         "3 Missing block 1 name",
+    ),
+    ("version='1'\ncrane=1", PLATE, BLOCK, "5 Kind top version"),
+    ("version=2\ndays=10\nfixed=1", PLATE, "", "10 NoBlock"),
+    (
+        "version=2\ndays=10\nfixed=[{},{},{},{},{},{},{},{},{},{},{},{},{},{},{},{},{},{},{},{},{},{},{},{},{},{},{},{},{},{},{},{},{},{},{},{},{},{},{},{},{},{},{},{},{},{},{},{},{}]",
+        "{}",
+        BLOCK,
+        "19 TooManyFixed 49",
+    ),
+    (
+        "version=2\ndays=10\nfixed=1",
+        "{}",
+        BLOCK,
+        "5 Kind top fixed",
+    ),
+    (
+        "version=3\ndays=10",
+        PLATE,
+        "{name='A',shape=[[0,0],[2,0],[0,2]],duration=2,due=1,weight=-1,early=-1}",
+        "7 Number block 0 weight -1",
+    ),
+    (
+        "version=3\ndays=10",
+        PLATE,
+        "{name='A',shape=[[0,0],[2,0],[0,2]],duration=2,due=1,early=-1},{}",
+        "7 Number block 0 early -1",
+    ),
+    (
+        "version=2\ndays=10\nfixed=[{}]",
+        PLATE,
+        "{}",
+        "3 Missing block 0 name",
+    ),
+    (
+        "version=2\ndays=10\nfixed=[{crane=1}]",
+        PLATE,
+        BLOCK,
+        "4 Unknown fixed 0 crane",
+    ),
+    (
+        "version=2\ndays=10\nfixed=[{plate='Q',shape=[],x=0,y=0,from=0,to=1}]",
+        PLATE,
+        BLOCK,
+        "20 FixedPlate 0",
+    ),
+    (
+        "version=2\ndays=10\nfixed=[{plate='P',shape=[],x=0,y=0,from=0,to=1,turn=4}]",
+        PLATE,
+        BLOCK,
+        "21 FixedShape fixed 0 TooFew",
+    ),
+    (
+        "version=2\ndays=10\nfixed=[{plate='P',shape=[[0,0],[2,0],[2,2],[0,2]],x=401,y=0,from=0,to=1,turn=4}]",
+        PLATE,
+        BLOCK,
+        "7 Number fixed 0 turn 4",
+    ),
+    (
+        "version=2\ndays=10\nfixed=[{plate='P',shape=[[0,0],[2,0],[2,2],[0,2]],x=401,y=401,from=0,to=1}]",
+        PLATE,
+        BLOCK,
+        "7 Number fixed 0 x 401",
+    ),
+    (
+        "version=2\ndays=10\nfixed=[{plate='P',shape=[[0,0],[2,0],[2,2],[0,2]],x=0,y=401,from=400,to=1}]",
+        PLATE,
+        BLOCK,
+        "7 Number fixed 0 y 401",
+    ),
+    (
+        "version=2\ndays=10\nfixed=[{plate='P',shape=[[0,0],[2,0],[2,2],[0,2]],x=0,y=0,from=400,to=400}]",
+        PLATE,
+        BLOCK,
+        "7 Number fixed 0 from 400",
+    ),
+    (
+        "version=2\ndays=10\nfixed=[{plate='P',shape=[[0,0],[2,0],[2,2],[0,2]],x=0,y=0,from=2,to=400}]",
+        PLATE,
+        BLOCK,
+        "7 Number fixed 0 to 400",
+    ),
+    (
+        "version=2\ndays=10\nfixed=[{plate='P',shape=[[0,0],[2,0],[2,2],[0,2]],x=400,y=0,from=1,to=0}]",
+        PLATE,
+        BLOCK,
+        "22 FixedDays 0",
+    ),
+    (
+        "version=2\ndays=10\nfixed=[{plate='P',shape=[[0,0],[2,0],[2,2],[0,2]],x=0,y=0,from=0,to=1},{plate='P',shape=[[0,0],[2,0],[2,2],[0,2]],x=0,y=2,from=0,to=1}]",
+        PLATE,
+        BLOCK,
+        "23 FixedOutside 1",
+    ),
+    (
+        "version=2\ndays=10\nfixed=[{plate='P',shape=[[0,0],[2,0],[2,2],[0,2]],x=0,y=0,from=0,to=1},{plate='P',shape=[[0,0],[2,0],[2,2],[0,2]],x=0,y=0,from=0,to=1},{}]",
+        PLATE,
+        BLOCK,
+        "24 FixedClash 0 1",
+    ),
+    (
+        "version=2\ndays=256\nfixed=[{}]",
+        "{name='P',width=64,height=65}",
+        UNIT,
+        "3 Missing fixed 0 plate",
     ),
 ];

@@ -6,4 +6,4 @@ use Rattle.yard_file.proofs.keys.least_unknown.Goals as goal
 
 pub returns : goal.returns
 returns c =
-    c.first_unknown.ensures ∙ first_is_least (is_known c.args.at) _ (rw (keys_in_view c.args.table.now.entries) (ascend_bytes _ c.len-count.ensures.ordered))
+    c.first_unknown.ensures ∙ first_is_least (is_known c.args.keys.now) _ (rw (keys_in_view c.args.table.now.entries) (ascend_bytes _ c.len-count.ensures.ordered))
