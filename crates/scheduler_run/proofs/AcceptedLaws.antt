@@ -6,14 +6,16 @@ use Rattle.toml.specs.Data.{Items, no_items, item, Members}
 use Rattle.shape_exact.specs.Yards.{PlainYard, plate_names, block_names}
 use Rattle.shape_exact.specs.declared.plate.Plate.{Plate}
 use Rattle.shape_exact.specs.declared.block.Block.{Block}
+use Rattle.shape_exact.specs.declared.fixed.Fixed.{Fixed}
 use Rattle.shape_exact.specs.Reading.{where_so}
 use Rattle.shape_exact.proofs.ReadLaws.{none_at}
 use Rattle.code_table.specs.Placements.{placements}
 use Rattle.yard_file.specs.Values.{◌>>=◌, value_in, number_in}
-use Rattle.yard_file.specs.Keys.{known_keys}
-use Rattle.yard_file.specs.Arrays.{count, told, tables_of, few_plates, few_blocks, plate_tables, block_tables}
+use Rattle.yard_file.specs.Keys.{known_keys, top_keys}
+use Rattle.yard_file.specs.Arrays.{count, told, tables_of, few_plates, few_blocks, plate_tables, block_tables, piece_tables}
 use Rattle.yard_file.specs.Plates.{plate_of, plates_from}
 use Rattle.yard_file.specs.Blocks.{block_of, blocks_from}
+use Rattle.yard_file.specs.Pieces.{pieces_from}
 use Rattle.yard_file.specs.Sizes.{too_many, first_too_many}
 use Rattle.yard_file.specs.Documents.{document}
 use Rattle.yard_file.specs.Reads.{version_in, unless, sized, rules, document_yard, yard_of}
@@ -71,17 +73,17 @@ plates_long days i done (item d ds) ps e =
     omega (arith, rest, length-append done (s.0 ∷ []))
 
 -- each table becomes a block
-blocks_long : (i : ℕ) (done : List Block) (items : Items) (bs : List Block) → blocks_from i done items ≡ Ok bs
+blocks_long : (version i : ℕ) (done : List Block) (items : Items) (bs : List Block) → blocks_from version i done items ≡ Ok bs
     → length done + count items ≤ length bs
-blocks_long i done no_items bs e = let same : done ≡ bs = cc in subst (λ l. length done + zero ≤ length l) same (omega arith)
-blocks_long i done (item d ds) bs e =
-    let s = bound (block_of i (block_names done) d) (λ block. blocks_from (i + 1) (done ++ block ∷ []) ds) bs e in
-    let rest : length (done ++ s.0 ∷ []) + count ds ≤ length bs = blocks_long (i + 1) (done ++ s.0 ∷ []) ds bs s.2 in
+blocks_long version i done no_items bs e = let same : done ≡ bs = cc in subst (λ l. length done + zero ≤ length l) same (omega arith)
+blocks_long version i done (item d ds) bs e =
+    let s = bound (block_of version i (block_names done) d) (λ block. blocks_from version (i + 1) (done ++ block ∷ []) ds) bs e in
+    let rest : length (done ++ s.0 ∷ []) + count ds ≤ length bs = blocks_long version (i + 1) (done ++ s.0 ∷ []) ds bs s.2 in
     omega (arith, rest, length-append done (s.0 ∷ []))
 
 -- the yard of these parts
-parts_yard : ℕ → List Plate → List Block → PlainYard
-parts_yard days plates blocks = record { days = days; plates = plates; blocks = blocks; fixed = [] }
+parts_yard : ℕ → List Plate → List Block → List Fixed → PlainYard
+parts_yard days plates blocks fixed = record { days = days; plates = plates; blocks = blocks; fixed = fixed }
 
 unless_ok : (fault : Option YardFault) (y yard : PlainYard) → unless fault y ≡ Ok yard → (fault ≡ None) × (y ≡ yard)
 unless_ok None y yard e = (refl, (cc))
@@ -89,40 +91,52 @@ unless_ok (Some fault) y yard e = cc
 
 -- the tables of the plates and of the blocks, from which the yard comes
 record Tables (ms : Members) (yard : PlainYard) : Type 0 where
+  version : ℕ
   days : ℕ
   plates : Items
   blocks : Items
   plates_are : plate_tables ms ≡ Ok plates
   blocks_are : block_tables ms ≡ Ok blocks
   plates_give : plates_from days 0 [] plates ≡ Ok yard.plates
-  blocks_give : blocks_from 0 [] blocks ≡ Ok yard.blocks
+  blocks_give : blocks_from version 0 [] blocks ≡ Ok yard.blocks
   none_many : first_too_many yard ≡ None
 
 -- the rules in their order, each with what it gives
-after_blocks : (days : ℕ) (ps : List Plate) (bs : List Block) → Result PlainYard YardFault
-after_blocks days ps bs = sized (parts_yard days ps bs)
+after_blocks : (days : ℕ) (fts : Items) (ps : List Plate) (bs : List Block) → Result PlainYard YardFault
+after_blocks days fts ps bs = pieces_from days ps 0 [] fts >>= (λ fs. sized (parts_yard days ps bs fs))
 
-after_plates : ℕ → Items → List Plate → Result PlainYard YardFault
-after_plates days bts ps = blocks_from 0 [] bts >>= (λ bs. after_blocks days ps bs)
+after_plates : (version days : ℕ) → Items → Items → List Plate → Result PlainYard YardFault
+after_plates version days bts fts ps = blocks_from version 0 [] bts >>= (λ bs. after_blocks days fts ps bs)
+
+after_tables : (version days : ℕ) → Items → Items → Items → Result PlainYard YardFault
+after_tables version days pts bts fts = plates_from days 0 [] pts >>= (λ ps. after_plates version days bts fts ps)
+
+after_days : ℕ → Members → ℕ → Result PlainYard YardFault
+after_days version ms days =
+    plate_tables ms >>= (λ pts. block_tables ms >>= (λ bts. piece_tables ms >>= (λ fts. after_tables version days pts bts fts)))
+
+after_version : Members → ℕ → Result PlainYard YardFault
+after_version ms version =
+    known_keys places.Top (top_keys version) ms >>= (λ known. number_in places.Top keys.Days 1 400 ms >>= (λ days. after_days version ms days))
 
 tables_of_yard : (ms : Members) (yard : PlainYard) → rules ms ≡ Ok yard → Tables ms yard
-unfolding rules after_plates after_blocks parts_yard
+unfolding rules after_version after_days after_tables after_plates after_blocks parts_yard
 tables_of_yard ms yard e =
-    let after_tables : ℕ → Items → Items → Result PlainYard YardFault =
-    λ days pts bts. plates_from days 0 [] pts >>= (λ ps. after_plates days bts ps) in
-    let version = bound (version_in ms)
-    (λ v. known_keys places.Top ms >>= (λ k. number_in places.Top keys.Days 1 400 ms >>= (λ days. plate_tables ms >>= (λ pts. block_tables ms >>= (λ bts. after_tables days pts bts))))) yard e in
-    let known = bound (known_keys places.Top ms)
-    (λ k. number_in places.Top keys.Days 1 400 ms >>= (λ days. plate_tables ms >>= (λ pts. block_tables ms >>= (λ bts. after_tables days pts bts)))) yard version.2 in
-    let days = bound (number_in places.Top keys.Days 1 400 ms)
-    (λ days. plate_tables ms >>= (λ pts. block_tables ms >>= (λ bts. after_tables days pts bts))) yard known.2 in
-    let pts = bound (plate_tables ms) (λ pts. block_tables ms >>= (λ bts. after_tables days.0 pts bts)) yard days.2 in
-    let bts = bound (block_tables ms) (λ bts. after_tables days.0 pts.0 bts) yard pts.2 in
-    let ps = bound (plates_from days.0 0 [] pts.0) (λ ps. after_plates days.0 bts.0 ps) yard bts.2 in
-    let bs = bound (blocks_from 0 [] bts.0) (λ bs. after_blocks days.0 ps.0 bs) yard ps.2 in
-    let whole : PlainYard = parts_yard days.0 ps.0 bs.0 in
-    let s = unless_ok (first_too_many whole) whole yard bs.2 in
+    let version = bound (version_in ms) (λ v. after_version ms v) yard e in
+    let known = bound (known_keys places.Top (top_keys version.0) ms)
+    (λ k. number_in places.Top keys.Days 1 400 ms >>= (λ days. after_days version.0 ms days)) yard version.2 in
+    let days = bound (number_in places.Top keys.Days 1 400 ms) (λ days. after_days version.0 ms days) yard known.2 in
+    let pts = bound (plate_tables ms)
+    (λ pts. block_tables ms >>= (λ bts. piece_tables ms >>= (λ fts. after_tables version.0 days.0 pts bts fts))) yard days.2 in
+    let bts = bound (block_tables ms) (λ bts. piece_tables ms >>= (λ fts. after_tables version.0 days.0 pts.0 bts fts)) yard pts.2 in
+    let fts = bound (piece_tables ms) (λ fts. after_tables version.0 days.0 pts.0 bts.0 fts) yard bts.2 in
+    let ps = bound (plates_from days.0 0 [] pts.0) (λ ps. after_plates version.0 days.0 bts.0 fts.0 ps) yard fts.2 in
+    let bs = bound (blocks_from version.0 0 [] bts.0) (λ bs. after_blocks days.0 fts.0 ps.0 bs) yard ps.2 in
+    let fs = bound (pieces_from days.0 ps.0 0 [] fts.0) (λ fs. sized (parts_yard days.0 ps.0 bs.0 fs)) yard bs.2 in
+    let whole : PlainYard = parts_yard days.0 ps.0 bs.0 fs.0 in
+    let s = unless_ok (first_too_many whole) whole yard fs.2 in
     record {
+      version = version.0;
       days = days.0;
       plates = pts.0;
       blocks = bts.0;
@@ -159,5 +173,5 @@ can_be_planned bytes yard e =
     let plate : 1 ≤ count t.plates = plates_some s.0 t.plates t.plates_are in
     let block : 1 ≤ count t.blocks = blocks_some s.0 t.blocks t.blocks_are in
     let plates : length {A = Plate} [] + count t.plates ≤ length yard.plates = plates_long t.days 0 [] t.plates yard.plates t.plates_give in
-    let blocks : length {A = Block} [] + count t.blocks ≤ length yard.blocks = blocks_long 0 [] t.blocks yard.blocks t.blocks_give in
+    let blocks : length {A = Block} [] + count t.blocks ≤ length yard.blocks = blocks_long t.version 0 [] t.blocks yard.blocks t.blocks_give in
     record { plates = omega (arith, plate, plates); blocks = omega (arith, block, blocks); few = few_placements yard t.none_many }
