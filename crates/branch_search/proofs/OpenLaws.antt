@@ -1,0 +1,23 @@
+-- Which blocks a box leaves open.
+use Rattle.std.proofs.Common.{◌≡◌, ◌≢◌, ℕ, zero, suc, ◌+◌, ◌<◌, List, [], ◌∷◌, Option, Some, None, ap, ◌∙◌, sym, arith}
+use Rattle.std.specs.Prelude.{slice_get, ◌==◌, if◌then◌else◌}
+use Rattle.std.specs.List.{AllWithin}
+use Rattle.std.proofs.lemmas.Bool.{eq-eqb, ne_eqb, cond-true, cond-false}
+use Rattle.std.proofs.lemmas.Option.{none-some, same_Some}
+use Rattle.plan_rule.specs.declared.literal.Literal.{Literal}
+use Rattle.plan_rule.specs.Boxes.{exact_code}
+
+-- the code of a literal of one code
+abbrev code_alone : Literal → Option ℕ
+code_alone l = if l.hi == l.lo + 1 then Some l.lo else None
+
+-- the first literal on a block says whether it is exact
+pub exact_first : (box : List Literal) (i b : ℕ) (l : Literal) → AllWithin (λ m. m.block ≢ b) box 0 i → slice_get box i ≡ Some l → l.block ≡ b
+    → exact_code box b ≡ (if l.hi == l.lo + 1 then Some l.lo else None)
+exact_first [] i b l none at on = absurd (none-some l at)
+exact_first (m ∷ box) zero b l none at on =
+    let same : m ≡ l = same_Some m l at in
+    cond-true (m.block == b) (code_alone m) (exact_code box b) (eq-eqb m.block b (ap (λ (x : Literal). x.block) same ∙ on)) ∙ ap code_alone same
+exact_first (m ∷ box) (suc i) b l none at on =
+    cond-false (m.block == b) (code_alone m) (exact_code box b) (ne_eqb m.block b (none 0 m (omega arith) (omega arith)))
+    ∙ exact_first box i b l (λ k d low high. none (suc k) d (omega arith) (omega arith)) at on

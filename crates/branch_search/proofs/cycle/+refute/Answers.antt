@@ -1,0 +1,423 @@
+use Rattle.std.proofs.Common.{◌≡◌, ℕ, ◌+◌, ◌*◌, ◌<◌, ◌∙◌, refl, sym, ap, subst, inl, inr, arith, length}
+use Rattle.std.specs.Prelude.{option_to_list}
+use Rattle.std.proofs.lemmas.Option.{same_Some}
+use Rattle.plan_rule.specs.Boxes.{with_literal, exact}
+use Rattle.plan_rule.specs.Yards.{choices}
+use Rattle.branch_kernel.specs.States.{state}
+use Rattle.branch_kernel.specs.Boxes.{inexact}
+use Rattle.branch_kernel.specs.Marks.{has}
+use Rattle.branch_kernel.specs.declared.covering.Covered.{Covered}
+use Rattle.branch_kernel.specs.Shows.{IsHandledBy, IsShown}
+use Rattle.branch_kernel.proofs.NodeLaws.{runs_self, runs_onto, ready_later, node_at, place_of_node, cited_empty, cited_once_more, ok_weaker, match_none}
+use Rattle.branch_kernel.proofs.DropLaws.{asked_self, asked_side, handled_by_more, shown_from}
+use Rattle.branch_kernel.proofs.WalkLaws.{flipped, jump_shown, jumped_node, along_settled, below_all, by_a_part, node_part, one_of_range, open_inexact, part_open, range_fewer, side_inside}
+use Rattle.branch_kernel.proofs.SettleLaws.{shown_below}
+use Rattle.branch_kernel.proofs.SplitLaws.{split_node, split_inside, shown_inside, split_inexact, child_inexact}
+use Rattle.branch_kernel.proofs.CloseLaws.{closed_done}
+use Rattle.branch_search.proofs.CycleLaws.{covers_from, match_some, opened}
+use Rattle.branch_search.proofs.cycle.+refute.Goals as goal
+
+pub divide-loop-code-init : goal.divide-loop-code-init
+divide-loop-code-init g t c = record {
+  served = c.requires.served;
+  home = refl;
+  runs = runs_self (choices c.args.codes.now) _ _ c.requires.ready;
+  prefix = refl;
+  handled = λ code l h. absurd (omega arith);
+  cited = cited_empty (choices c.args.codes.now) _ _ _ _ c.new-cites.ensures.items;
+}
+
+pub divide-settle-requires : goal.divide-settle-requires
+divide-settle-requires g t c κs within =
+    let now : 6 * inexact (choices c.args.codes.now) c.args.side.now + 1 ≡ t = c.decreases in
+    let smaller : 6 * inexact (choices c.args.codes.now) c.args.side.now < t = omega arith in (
+      smaller,
+      (
+        within,
+        (
+          c.requires.tables,
+          (
+            c.loop-code.invariant.served,
+            (
+              ready_later (choices c.args.codes.now) _ _ _ c.requires.ready c.loop-code.invariant.runs,
+              node_at (choices c.args.codes.now) _ _ _ _ _ _ c.requires.node c.loop-code.auto.code c.loop-code-test.true,
+            ),
+          ),
+        ),
+      ),
+    )
+
+pub divide-returns-in_err-settled-clause-runs : goal.divide-returns-in_err-settled-clause-runs
+divide-returns-in_err-settled-clause-runs g t c = runs_onto (choices c.args.codes.now) _ _ _ _ c.requires.ready c.loop-code.invariant.runs c.settle.ensures.runs
+
+pub divide-returns-in_err-note-clause-runs : goal.divide-returns-in_err-note-clause-runs
+divide-returns-in_err-note-clause-runs g t c = runs_onto (choices c.args.codes.now) _ _ _ _ c.requires.ready c.loop-code.invariant.runs c.settle.ensures.runs
+
+pub divide-returns-in-Some-clause-runs : goal.divide-returns-in-Some-clause-runs
+divide-returns-in-Some-clause-runs g t c = runs_onto (choices c.args.codes.now) _ _ _ _ c.requires.ready c.loop-code.invariant.runs c.settle.ensures.runs
+
+pub divide-returns-in-Some-clause-shown : goal.divide-returns-in-Some-clause-shown
+divide-returns-in-Some-clause-shown g t c =
+    let (last, shown) = c.in_ok-settled.ensures.jumped c.if-settled.true c.in-Some.number c.in-Some.is in (
+      last,
+      jumped_node (choices c.args.codes.now) _ _ _ _ _ c.args.side.now c.args.range.block c.args.range.lo c.args.range.hi c.requires.node.free c.loop-code.invariant.runs.grows shown,
+    )
+
+pub divide-loop-code-preserved : goal.divide-loop-code-preserved
+divide-loop-code-preserved g t c =
+    let (handled, cited) = c.in_ok-settled.ensures.covered in
+    record {
+      served = c.settle.ensures.served;
+      home = c.settle.ensures.home ∙ c.loop-code.invariant.home;
+      runs = runs_onto (choices c.args.codes.now) _ _ _ _ c.requires.ready c.loop-code.invariant.runs c.settle.ensures.runs;
+      prefix = c.settle.ensures.prefix ∙ c.loop-code.invariant.prefix;
+      handled = handled_by_more (choices c.args.codes.now) _ _ _ _ _ _ _ _ _ _ _ _ _ _ c.requires.ready.fits c.loop-code.invariant.runs.grows c.settle.ensures.runs.grows c.in_ok-note.ensures
+          c.settle.ensures.needs c.loop-code.invariant.handled handled;
+      cited = cited_once_more (choices c.args.codes.now) _ _ _ _ _ _ _ _ c.requires.ready.fits c.loop-code.invariant.runs.grows c.settle.ensures.runs.grows c.in_ok-note.ensures
+          c.loop-code.invariant.cited cited;
+    }
+
+pub divide-returns-clause-runs : goal.divide-returns-clause-runs
+divide-returns-clause-runs g t c =
+    (closed_done (choices c.args.codes.now) _ _ _ _ _ _ _ _ _ _ _ _ _ _ c.close.result c.requires.ready c.loop-code.invariant.runs (place_of_node (choices c.args.codes.now) _ _ _ _ _ c.requires.node)
+    c.requires.asked c.loop-code.invariant.handled c.loop-code-test.false c.loop-code.invariant.cited c.close.ensures).0
+
+pub divide-returns-clause-shown : goal.divide-returns-clause-shown
+divide-returns-clause-shown g t c =
+    (closed_done (choices c.args.codes.now) _ _ _ _ _ _ _ _ _ _ _ _ _ _ c.close.result c.requires.ready c.loop-code.invariant.runs (place_of_node (choices c.args.codes.now) _ _ _ _ _ c.requires.node)
+    c.requires.asked c.loop-code.invariant.handled c.loop-code-test.false c.loop-code.invariant.cited c.close.ensures).1
+
+pub refute-divide-requires : goal.refute-divide-requires
+refute-divide-requires g t c κs within =
+    let now : 6 * inexact (choices c.args.codes.now) c.args.part.now + 2 ≡ t = c.decreases in
+    let fewer = split_inexact (choices c.args.codes.now) c.args.part.now c.in_ok-side.side c.args.block c.requires.open.part_is.ascending c.requires.unset c.in_ok-side.ensures in
+    let smaller : 6 * inexact (choices c.args.codes.now) c.in_ok-side.side + 1 < t = omega arith in
+    let none = match_none _ _ _ c.in_ok-shown.ensures.shown c.in_default.is in (
+      smaller,
+      (
+        within,
+        (
+          c.requires.tables,
+          (
+            c.bounded.ensures.served,
+            (
+              ready_later (choices c.args.codes.now) _ _ _ c.requires.ready c.bounded.ensures.runs,
+              (
+                split_node (choices c.args.codes.now) _ _ _ _ c.range_on-range.result c.requires.open c.requires.block c.range_on-range.ensures c.in_ok-side.ensures,
+                asked_side (choices c.args.codes.now) c.args.part.now _ _ _ _ c.requires.open.part_is c.requires.open.clear none.1 (omega arith) c.in_ok-side.ensures,
+              ),
+            ),
+          ),
+        ),
+      ),
+    )
+
+pub refute-returns-clause-runs : goal.refute-returns-clause-runs
+refute-returns-clause-runs g t c = runs_onto (choices c.args.codes.now) _ _ _ _ c.requires.ready c.bounded.ensures.runs c.divide.ensures.runs
+
+pub refute-returns-clause-shown : goal.refute-returns-clause-shown
+refute-returns-clause-shown g t c =
+    ok_weaker c.divide.result _ _ (λ shown h. (
+      h.0,
+      shown_inside (choices c.args.codes.now) _ _ _ _ _ c.args.part.now
+          (split_inside (choices c.args.codes.now) c.args.part.now c.in_ok-side.side c.args.block c.range_on-range.result c.range_on-range.ensures c.in_ok-side.ensures)
+          (shown_from (choices c.args.codes.now) _ _ _ _ _ _ c.bounded.ensures.runs.grows h.1),
+    )) c.divide.ensures.shown
+
+pub deeper-refute-requires : goal.deeper-refute-requires
+deeper-refute-requires g t c κs within =
+    let now : 6 * inexact (choices c.args.codes.now) c.args.part.now + 5 ≡ t = c.decreases in
+    let smaller : 6 * inexact (choices c.args.codes.now) c.args.part.now + 2 < t = omega arith in
+    (smaller, (within, (c.requires.tables, (c.requires.served, (c.requires.ready, (c.requires.open, (c.requires.block, c.requires.unset)))))))
+
+pub deeper-along-requires : goal.deeper-along-requires
+deeper-along-requires g t c κs within =
+    let now : 6 * inexact (choices c.args.codes.now) c.args.part.now + 5 ≡ t = c.decreases in
+    let fewer = split_inexact (choices c.args.codes.now) c.args.part.now c.in_ok-side.side c.args.block c.requires.open.part_is.ascending c.requires.unset c.in_ok-side.ensures in
+    let smaller : 6 * inexact (choices c.args.codes.now) c.in_ok-side.side + 4 < t = omega arith in (
+      smaller,
+      (
+        within,
+        (
+          c.requires.tables,
+          (
+            c.requires.served,
+            (
+              c.requires.ready,
+              split_node (choices c.args.codes.now) _ _ _ _ c.range_on-range.result c.requires.open c.requires.block c.range_on-range.ensures c.in_ok-side.ensures,
+            ),
+          ),
+        ),
+      ),
+    )
+
+pub deeper-returns-clause-shown : goal.deeper-returns-clause-shown
+deeper-returns-clause-shown g t c =
+    ok_weaker c.along.result _ _ (λ shown h. (
+      h.0,
+      shown_inside (choices c.args.codes.now) _ _ _ _ _ c.args.part.now
+          (split_inside (choices c.args.codes.now) c.args.part.now c.in_ok-side.side c.args.block c.range_on-range.result c.range_on-range.ensures c.in_ok-side.ensures) h.1,
+    )) c.along.ensures.shown
+
+pub deeper-returns-in_err-side-clause-runs : goal.deeper-returns-in_err-side-clause-runs
+deeper-returns-in_err-side-clause-runs g t c = runs_self (choices c.args.codes.now) _ _ c.requires.ready
+
+pub settle_range-returns-then-range-clause-runs : goal.settle_range-returns-then-range-clause-runs
+settle_range-returns-then-range-clause-runs g t c = runs_self (choices c.args.codes.now) _ _ c.requires.ready
+
+pub settle_range-returns-in_err-part-clause-runs : goal.settle_range-returns-in_err-part-clause-runs
+settle_range-returns-in_err-part-clause-runs g t c = runs_self (choices c.args.codes.now) _ _ c.requires.ready
+
+pub settle_range-open_or-next-requires-clause-open : goal.settle_range-open_or-next-requires-clause-open
+settle_range-open_or-next-requires-clause-open g t c =
+    let some = c.if-range.false in
+    let wide = c.if-range-2.false in
+    let node = c.requires.node (omega arith) in
+    open_inexact c.args.side.now c.in_ok-part.part c.args.range node.side_is.ascending node.free (omega arith) c.in_ok-part.ensures
+
+pub settle_range-refute-requires : goal.settle_range-refute-requires
+settle_range-refute-requires g t c κs within =
+    let some = c.if-range.false in
+    let wide = c.if-range-2.false in
+    let node = c.requires.node (omega arith) in
+    let now : 6 * inexact (choices c.args.codes.now) c.args.side.now + 3 ≡ t = c.decreases in
+    let fewer = range_fewer (choices c.args.codes.now) c.args.side.now c.in_ok-part.part c.args.range node.side_is.ascending node.free c.in_ok-part.ensures in
+    let smaller : 6 * inexact (choices c.args.codes.now) c.in_ok-part.part + 2 < t = omega arith in (
+      smaller,
+      (
+        within,
+        (
+          c.requires.tables,
+          (
+            c.requires.served,
+            (
+              c.requires.ready,
+              (
+                part_open (choices c.args.codes.now) c.args.job c.args.side.now c.in_ok-part.part c.args.range node (omega arith) (c.requires.cut (omega arith)) c.in_ok-part.ensures,
+                (c.open_or-next.ensures.block, c.open_or-next.ensures.open),
+              ),
+            ),
+          ),
+        ),
+      ),
+    )
+
+pub settle_range-returns-clause-covered : goal.settle_range-returns-clause-covered
+settle_range-returns-clause-covered g t c =
+    let some = c.if-range.false in
+    let wide = c.if-range-2.false in
+    let node = c.requires.node (omega arith) in
+    by_a_part (choices c.args.codes.now) _ _ _ c.args.side.now c.in_ok-part.part (has c.add_result.new.needs) c.args.range c.in_ok-shown.shown.number c.records.result.now c.index-records-shown.result
+    c.requires.ready.known node.free c.in_ok-part.ensures c.in_ok-shown.ensures.shown.1 c.records.ensures.value c.index-records-shown.is c.add_result.ensures.added (omega arith)
+
+pub along-returns-in-Some-clause-shown : goal.along-returns-in-Some-clause-shown
+along-returns-in-Some-clause-shown g t c =
+    let (one, last, shown) = match_some _ _ _ c.in-Some.shown c.in_ok-shown.ensures.shown c.in-Some.is in
+    (last, shown_inside (choices c.args.codes.now) _ _ _ _ _ _ (side_inside (choices c.args.codes.now) c.args.side.now c.args.range.block c.args.range.lo c.args.range.hi c.requires.node.free) shown)
+
+pub along-divide-requires : goal.along-divide-requires
+along-divide-requires g t c κs within =
+    let now : 6 * inexact (choices c.args.codes.now) c.args.side.now + 4 ≡ t = c.decreases in
+    let smaller : 6 * inexact (choices c.args.codes.now) c.args.side.now + 1 < t = omega arith in
+    let none = match_none _ _ _ c.in_ok-shown.ensures.shown c.in_default.is in (
+      smaller,
+      (
+        within,
+        (
+          c.requires.tables,
+          (
+            c.bounded.ensures.served,
+            (
+              ready_later (choices c.args.codes.now) _ _ _ c.requires.ready c.bounded.ensures.runs,
+              (
+                c.requires.node,
+                asked_self (choices c.args.codes.now) c.args.side.now _ c.requires.node.side_is c.requires.node.clear none.1,
+              ),
+            ),
+          ),
+        ),
+      ),
+    )
+
+pub along-returns-in_default-own_code-clause-runs : goal.along-returns-in_default-own_code-clause-runs
+along-returns-in_default-own_code-clause-runs g t c = runs_onto (choices c.args.codes.now) _ _ _ _ c.requires.ready c.bounded.ensures.runs c.divide.ensures.runs
+
+pub along-returns-in_default-own_code-clause-shown : goal.along-returns-in_default-own_code-clause-shown
+along-returns-in_default-own_code-clause-shown g t c =
+    ok_weaker c.divide.result _ _ (λ shown h. (h.0, shown_from (choices c.args.codes.now) _ _ _ _ _ _ c.bounded.ensures.runs.grows h.1)) c.divide.ensures.shown
+
+pub along-returns-in_err-own-clause-runs : goal.along-returns-in_err-own-clause-runs
+along-returns-in_err-own-clause-runs g t c = runs_onto (choices c.args.codes.now) _ _ _ _ c.requires.ready c.bounded.ensures.runs c.settle.ensures.runs
+
+pub along-settle_range-requires : goal.along-settle_range-requires
+along-settle_range-requires g t c κs within =
+    let now : 6 * inexact (choices c.args.codes.now) c.args.side.now + 4 ≡ t = c.decreases in
+    let smaller : 6 * inexact (choices c.args.codes.now) c.args.side.now + 3 < t = omega arith in
+    let low = c.in-Some-own_code.ensures.0 in (
+      smaller,
+      (
+        within,
+        (
+          c.requires.tables,
+          (
+            c.settle.ensures.served,
+            (
+              ready_later (choices c.args.codes.now) _ _ _ c.requires.ready (runs_onto (choices c.args.codes.now) _ _ _ _ c.requires.ready c.bounded.ensures.runs c.settle.ensures.runs),
+              ((λ some. node_part (choices c.args.codes.now) _ _ _ _ _ _ _ c.requires.node (omega arith) (omega arith) some), (λ _. inl (omega arith))),
+            ),
+          ),
+        ),
+      ),
+    )
+
+pub along-returns-in_err-above-clause-runs : goal.along-returns-in_err-above-clause-runs
+along-returns-in_err-above-clause-runs g t c =
+    runs_onto (choices c.args.codes.now) _ _ _ _ c.requires.ready (runs_onto (choices c.args.codes.now) _ _ _ _ c.requires.ready c.bounded.ensures.runs c.settle.ensures.runs) c.settle_range.ensures.runs
+
+pub along-settle_range-requires-2 : goal.along-settle_range-requires-2
+along-settle_range-requires-2 g t c κs within =
+    let now : 6 * inexact (choices c.args.codes.now) c.args.side.now + 4 ≡ t = c.decreases in
+    let smaller : 6 * inexact (choices c.args.codes.now) c.args.side.now + 3 < t = omega arith in
+    let high = c.in-Some-own_code.ensures.1 in (
+      smaller,
+      (
+        within,
+        (
+          c.requires.tables,
+          (
+            c.settle_range.ensures.served,
+            (
+              ready_later (choices c.args.codes.now) _ _ _ c.requires.ready
+                  (runs_onto (choices c.args.codes.now) _ _ _ _ c.requires.ready (runs_onto (choices c.args.codes.now) _ _ _ _ c.requires.ready c.bounded.ensures.runs c.settle.ensures.runs) c.settle_range.ensures.runs),
+              (
+                (λ some. node_part (choices c.args.codes.now) _ _ _ _ _ _ _ c.requires.node (omega arith) (omega arith) some),
+                (λ _. inr (below_all (choices c.args.codes.now) c.args.job c.args.side.now _ _ _ c.in-Some-own_code.code c.requires.node high)),
+              ),
+            ),
+          ),
+        ),
+      ),
+    )
+
+pub along-returns-in_err-below-clause-runs : goal.along-returns-in_err-below-clause-runs
+along-returns-in_err-below-clause-runs g t c =
+    runs_onto (choices c.args.codes.now) _ _ _ _ c.requires.ready
+    (runs_onto (choices c.args.codes.now) _ _ _ _ c.requires.ready (runs_onto (choices c.args.codes.now) _ _ _ _ c.requires.ready c.bounded.ensures.runs c.settle.ensures.runs) c.settle_range.ensures.runs)
+    c.settle_range-2.ensures.runs
+
+pub along-returns-in_err-cites-clause-runs : goal.along-returns-in_err-cites-clause-runs
+along-returns-in_err-cites-clause-runs g t c =
+    runs_onto (choices c.args.codes.now) _ _ _ _ c.requires.ready
+    (runs_onto (choices c.args.codes.now) _ _ _ _ c.requires.ready (runs_onto (choices c.args.codes.now) _ _ _ _ c.requires.ready c.bounded.ensures.runs c.settle.ensures.runs) c.settle_range.ensures.runs)
+    c.settle_range-2.ensures.runs
+
+pub along-close-requires-clause-cites : goal.along-close-requires-clause-cites
+along-close-requires-clause-cites g t c =
+    let ready = ready_later (choices c.args.codes.now) _ _ _ c.requires.ready c.bounded.ensures.runs in
+    let (handled, cited) = along_settled (choices c.args.codes.now) _ _ _ _ _ _ _ c.args.side.now _ _ _ _ _ _ _ c.args.range.block c.args.range.lo c.args.range.hi c.in-Some-own_code.code ready.fits
+    c.settle.ensures.runs.grows c.settle_range.ensures.runs.grows c.settle_range-2.ensures.runs.grows c.settle_range.ensures.needs c.settle_range-2.ensures.needs c.in_ok-cites.ensures
+    c.in_ok-own.ensures.covered c.in_ok-above.ensures.covered c.in_ok-below.ensures.covered in
+    cited.earlier
+
+pub along-returns-clause-runs : goal.along-returns-clause-runs
+along-returns-clause-runs g t c =
+    let none = match_none _ _ _ c.in_ok-shown.ensures.shown c.in_default.is in
+    let ready = ready_later (choices c.args.codes.now) _ _ _ c.requires.ready c.bounded.ensures.runs in
+    let runs = runs_onto (choices c.args.codes.now) _ _ _ _ ready (runs_onto (choices c.args.codes.now) _ _ _ _ ready c.settle.ensures.runs c.settle_range.ensures.runs) c.settle_range-2.ensures.runs in
+    let (handled, cited) = along_settled (choices c.args.codes.now) _ _ _ _ _ _ _ c.args.side.now _ _ _ _ _ _ _ c.args.range.block c.args.range.lo c.args.range.hi c.in-Some-own_code.code ready.fits
+    c.settle.ensures.runs.grows c.settle_range.ensures.runs.grows c.settle_range-2.ensures.runs.grows c.settle_range.ensures.needs c.settle_range-2.ensures.needs c.in_ok-cites.ensures
+    c.in_ok-own.ensures.covered c.in_ok-above.ensures.covered c.in_ok-below.ensures.covered in
+    runs_onto (choices c.args.codes.now) _ _ _ _ c.requires.ready c.bounded.ensures.runs
+    (closed_done (choices c.args.codes.now) _ _ _ _ _ _ _ _ _ _ _ _ _ c.args.range.hi c.close.result ready runs (place_of_node (choices c.args.codes.now) _ _ _ _ _ c.requires.node)
+    (asked_self (choices c.args.codes.now) c.args.side.now _ c.requires.node.side_is c.requires.node.clear none.1) handled (omega arith) cited c.close.ensures).0
+
+pub along-returns-clause-shown : goal.along-returns-clause-shown
+along-returns-clause-shown g t c =
+    let none = match_none _ _ _ c.in_ok-shown.ensures.shown c.in_default.is in
+    let ready = ready_later (choices c.args.codes.now) _ _ _ c.requires.ready c.bounded.ensures.runs in
+    let runs = runs_onto (choices c.args.codes.now) _ _ _ _ ready (runs_onto (choices c.args.codes.now) _ _ _ _ ready c.settle.ensures.runs c.settle_range.ensures.runs) c.settle_range-2.ensures.runs in
+    let (handled, cited) = along_settled (choices c.args.codes.now) _ _ _ _ _ _ _ c.args.side.now _ _ _ _ _ _ _ c.args.range.block c.args.range.lo c.args.range.hi c.in-Some-own_code.code ready.fits
+    c.settle.ensures.runs.grows c.settle_range.ensures.runs.grows c.settle_range-2.ensures.runs.grows c.settle_range.ensures.needs c.settle_range-2.ensures.needs c.in_ok-cites.ensures
+    c.in_ok-own.ensures.covered c.in_ok-above.ensures.covered c.in_ok-below.ensures.covered in
+    ok_weaker c.close.result _ _ (λ shown h. (h.0, shown_from (choices c.args.codes.now) _ _ _ _ _ _ c.bounded.ensures.runs.grows h.1))
+    (closed_done (choices c.args.codes.now) _ _ _ _ _ _ _ _ _ _ _ _ _ c.args.range.hi c.close.result ready runs (place_of_node (choices c.args.codes.now) _ _ _ _ _ c.requires.node)
+    (asked_self (choices c.args.codes.now) c.args.side.now _ c.requires.node.side_is c.requires.node.clear none.1) handled (omega arith) cited c.close.ensures).1
+
+pub settle-returns-in_err-covered-2-clause-runs : goal.settle-returns-in_err-covered-2-clause-runs
+settle-returns-in_err-covered-2-clause-runs g t c = runs_onto (choices c.args.codes.now) _ _ _ _ c.requires.ready c.cover.ensures.runs c.cover_by_plan.ensures.runs
+
+pub settle-returns-in_default-clause-runs : goal.settle-returns-in_default-clause-runs
+settle-returns-in_default-clause-runs g t c = runs_onto (choices c.args.codes.now) _ _ _ _ c.requires.ready c.cover.ensures.runs c.cover_by_plan.ensures.runs
+
+pub settle-returns-in_default-clause-covered : goal.settle-returns-in_default-clause-covered
+settle-returns-in_default-clause-covered g t c =
+    covers_from (choices c.args.codes.now) _ _ _ _ _ _ _ c.in_ok-covered-2.covered c.cover.ensures.runs.grows c.in_ok-covered-2.ensures.covered
+
+pub settle-deeper-requires : goal.settle-deeper-requires
+settle-deeper-requires g t c κs within =
+    let now : 6 * inexact (choices c.args.codes.now) c.args.side.now ≡ t = c.decreases in
+    let (is, child) = opened (choices c.args.codes.now) c.args.job _ _ c.args.side.now _ c.args.block c.args.code _ c.in-Open.child c.in_ok-covered.ensures.covered c.in-Open.is in
+    let fewer = child_inexact (choices c.args.codes.now) c.args.side.now c.in-Open.child c.args.block c.args.code c.requires.node.side_is.ascending c.requires.node.block c.requires.node.free is in
+    let smaller : 6 * inexact (choices c.args.codes.now) c.in-Open.child + 5 < t = omega arith in (
+      smaller,
+      (
+        within,
+        (
+          c.requires.tables,
+          (
+            c.cover.ensures.served,
+            (
+              ready_later (choices c.args.codes.now) _ _ _ c.requires.ready c.cover.ensures.runs,
+              (
+                child,
+                (c.in-Some.ensures.0, c.in-Some.ensures.1),
+              ),
+            ),
+          ),
+        ),
+      ),
+    )
+
+pub settle-returns-in_err-shown-clause-runs : goal.settle-returns-in_err-shown-clause-runs
+settle-returns-in_err-shown-clause-runs g t c = runs_onto (choices c.args.codes.now) _ _ _ _ c.requires.ready c.cover.ensures.runs c.deeper.ensures.runs
+
+pub settle-returns-clause-runs : goal.settle-returns-clause-runs
+settle-returns-clause-runs g t c = runs_onto (choices c.args.codes.now) _ _ _ _ c.requires.ready c.cover.ensures.runs c.deeper.ensures.runs
+
+pub settle-returns-clause-covered : goal.settle-returns-clause-covered
+settle-returns-clause-covered g t c =
+    let (is, child) = opened (choices c.args.codes.now) c.args.job _ _ c.args.side.now _ c.args.block c.args.code _ c.in-Open.child c.in_ok-covered.ensures.covered c.in-Open.is in
+    c.cover_by_record-covered.ensures.covered (state (g.B.Bars.bar c.args.bars.now) c.args.best.now c.args.log.now c.args.store.now)
+    (state (g.B.Bars.bar c.cover.new.bars) c.args.best.now c.args.log.now c.args.store.now)
+    (state (g.B.Bars.bar c.deeper.new.bars) c.deeper.new.best c.deeper.new.log c.deeper.new.store) refl
+    (ready_later (choices c.args.codes.now) _ _ _ c.requires.ready c.cover.ensures.runs) c.requires.node c.cover.ensures.runs.grows
+    (subst (IsShown (choices c.args.codes.now) (state (g.B.Bars.bar c.cover.new.bars) c.args.best.now c.args.log.now c.args.store.now)
+    (state (g.B.Bars.bar c.deeper.new.bars) c.deeper.new.best c.deeper.new.log c.deeper.new.store) c.in_ok-shown.shown.tie c.in_ok-shown.shown.number) is c.in_ok-shown.ensures.shown.1)
+
+pub settle-returns-clause-jumped : goal.settle-returns-clause-jumped
+settle-returns-clause-jumped g t c = λ jumps k cited.
+    let (is, child) = opened (choices c.args.codes.now) c.args.job _ _ c.args.side.now _ c.args.block c.args.code _ c.in-Open.child c.in_ok-covered.ensures.covered c.in-Open.is in
+    let same = same_Some c.in_ok-shown.shown.number k (sym (ap (λ (r : Covered). r.cite) c.cover_by_record-covered.ensures.result) ∙ cited) in
+    let tie = ap (λ (r : Covered). r.tie) c.cover_by_record-covered.ensures.result in
+    subst (λ tie. (k + 1 ≡ length c.deeper.new.log)
+    × IsShown (choices c.args.codes.now) (state (g.B.Bars.bar c.args.bars.now) c.args.best.now c.args.log.now c.args.store.now)
+    (state (g.B.Bars.bar c.deeper.new.bars) c.deeper.new.best c.deeper.new.log c.deeper.new.store) tie k c.args.side.now) (sym tie)
+    (subst (λ k. (k + 1 ≡ length c.deeper.new.log)
+    × IsShown (choices c.args.codes.now) (state (g.B.Bars.bar c.args.bars.now) c.args.best.now c.args.log.now c.args.store.now)
+    (state (g.B.Bars.bar c.deeper.new.bars) c.deeper.new.best c.deeper.new.log c.deeper.new.store) c.in_ok-shown.shown.tie k c.args.side.now) same (
+      c.in_ok-shown.ensures.shown.0,
+      jump_shown (choices c.args.codes.now) _ _ _ c.in_ok-shown.shown.tie c.args.side.now c.in-Open.child c.args.block c.args.code c.in_ok-shown.shown.number (exact c.args.block c.args.code) c.records.result.now c.index-records-shown.result
+          c.cover.ensures.runs.grows refl is c.in_ok-shown.ensures.shown.1 c.records.ensures.value c.index-records-shown.is
+          (c.names-named.ensures (flipped c.names-named.result jumps)),
+    ))
+
+pub settle_range-returns-then-range-2-clause-covered : goal.settle_range-returns-then-range-2-clause-covered
+settle_range-returns-then-range-2-clause-covered g t c = (
+  (λ code low high.
+      let wide = c.if-range-2.true in
+      let e : c.args.range.lo ≡ code = omega arith in
+      subst (IsHandledBy (choices c.args.codes.now) (state (g.B.Bars.bar c.args.bars.now) c.args.best.now c.args.log.now c.args.store.now)
+      (state (g.B.Bars.bar c.settle.new.bars) c.settle.new.best c.settle.new.log c.settle.new.store) c.in_ok-settled.settled.covered.tie c.args.side.now (has c.settle.new.needs)
+      (option_to_list c.in_ok-settled.settled.covered.cite) c.args.range.block) e c.in_ok-settled.ensures.covered.0),
+  c.in_ok-settled.ensures.covered.1,
+)

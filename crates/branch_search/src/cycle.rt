@@ -1,0 +1,397 @@
+//! The cycle of the search: a box is refuted, a range is divided or walked along the best plan, a code is settled.
+ghost use Rattle.std.specs.Prelude.{◌≡◌, ◌+◌, ◌<◌, ◌≤◌, ◌/◌, ◌^◌, ◌⊎◌, ℕ, None, Some, true, length, IfOk, option_to_list};
+ghost use Rattle.plan_rule.specs.Choices.{blocks, count};
+ghost use Rattle.plan_rule.specs.Boxes.{exact_code};
+ghost use Rattle.plan_rule.specs.Yards.{choices};
+ghost use Rattle.branch_kernel.specs.States.{state};
+ghost use Rattle.branch_kernel.specs.Boxes.{node_box};
+ghost use Rattle.branch_kernel.specs.Marks.{has};
+ghost use Rattle.branch_kernel.specs.Nodes.{IsNode, IsOpenBox};
+ghost use Rattle.branch_kernel.specs.Unbeaten.{IsAskedSide};
+ghost use Rattle.branch_kernel.specs.Growth.{IsReady, Runs};
+ghost use Rattle.branch_kernel.specs.Shows.{AreCited, IsHandledBy, IsShown};
+ghost use Rattle.branch_kernel.specs.Covers.{CoversCode};
+
+use crate::Hints;
+use crate::open::{first_open, open_or};
+use crate::own::{cites_of, note, own_code};
+use branch_kernel::{
+    Bars, Blocks, Coverage, Covered, Shown, add_result, bounded, close, cover, cover_by_plan,
+    cover_by_record, names, range_on, with, without,
+};
+use code_table::Codes;
+use nogood_store::Nogoods;
+use plan_rule::{Job, Literal, Plan, PlanBox};
+use refutation_log::Log;
+use shape_exact::NoMemory;
+use std::alloc::Global;
+use tardiness_bounds::YardTables;
+
+/// How a code was settled. Where it `jumps`, its record was made last, and it shows the side without the code.
+#[derive(Clone, Copy, Drop)]
+struct Settled {
+    covered: Covered,
+    jumps: bool,
+}
+
+/// Settles one code of a block beside a side: by a step of the kernel, or by the record of a search below it, or by the plan
+/// that is left. Marks the blocks whose literals were needed.
+#[cycle(refute)]
+fn settle<B: Bars>(
+    alloc: Global,
+    codes: &Codes,
+    tables: &YardTables<'_>,
+    job: Job,
+    bars: &mut B,
+    best: &mut Option<Plan>,
+    log: &mut Log,
+    store: &mut Nogoods,
+    hints: &mut Hints,
+    side: &PlanBox,
+    block: u8,
+    code: u32,
+    needs: &mut Blocks,
+    walk: bool,
+) -> Result<Settled, NoMemory>
+    requires tables { tables.now.yard ≡ codes.now }
+    requires served { B.yard bars.old ≡ codes.now }
+    requires ready { IsReady (choices codes.now) job (state (B.bar bars.old) best.old log.old store.old) }
+    requires node { IsNode (choices codes.now) job side.now block code (code + 1) }
+    ensures served { B.yard bars.new ≡ codes.now }
+    ensures home { B.home bars.new ≡ B.home bars.old }
+    ensures runs { Runs (choices codes.now) job (state (B.bar bars.old) best.old log.old store.old)
+        (state (B.bar bars.new) best.new log.new store.new) }
+    ensures prefix { store.new.prefix ≡ store.old.prefix }
+    ensures needs { (x : ℕ) → has needs.old x ≡ true → has needs.new x ≡ true }
+    ensures covered { IfOk result (λ r. CoversCode (choices codes.now) (state (B.bar bars.old) best.old log.old store.old)
+        (state (B.bar bars.new) best.new log.new store.new) side.now (has needs.new) block code r.covered) }
+    ensures jumped { IfOk result (λ r. r.jumps ≡ true → (k : ℕ) → r.covered.cite ≡ Some k → (k + 1 ≡ length log.new)
+        × IsShown (choices codes.now) (state (B.bar bars.old) best.old log.old store.old)
+        (state (B.bar bars.new) best.new log.new store.new) r.covered.tie k side.now) }
+{
+    let child = match cover(
+        alloc, codes, job, bars, best, log, store, side, block, code, needs,
+    )? {
+        Coverage::Done(covered) => {
+            return Ok(Settled {
+                covered,
+                jumps: false,
+            });
+        }
+        Coverage::Open(child) => child,
+    };
+    let Some(next) = first_open(codes, &child) else {
+        let covered = cover_by_plan(
+            alloc, codes, job, bars, best, log, store, side, block, code, &child, needs,
+        )?;
+        return Ok(Settled {
+            covered,
+            jumps: false,
+        });
+    };
+    let shown = deeper(
+        alloc, codes, tables, job, bars, best, log, store, hints, &child, next, walk,
+    )?;
+    let named = names(codes, &log.records()[shown.number as usize], block);
+    let covered = cover_by_record(codes, job, log, side, block, code, shown, needs);
+    Ok(Settled {
+        covered,
+        jumps: !named,
+    })
+}
+
+/// Settles the codes of a range one after another, and makes the record that says so.
+#[cycle(refute)]
+fn divide<B: Bars>(
+    alloc: Global,
+    codes: &Codes,
+    tables: &YardTables<'_>,
+    job: Job,
+    bars: &mut B,
+    best: &mut Option<Plan>,
+    log: &mut Log,
+    store: &mut Nogoods,
+    hints: &mut Hints,
+    side: &PlanBox,
+    range: Literal,
+) -> Result<Shown, NoMemory>
+    requires tables { tables.now.yard ≡ codes.now }
+    requires served { B.yard bars.old ≡ codes.now }
+    requires ready { IsReady (choices codes.now) job (state (B.bar bars.old) best.old log.old store.old) }
+    requires node { IsNode (choices codes.now) job side.now range.block range.lo range.hi }
+    requires asked { IsAskedSide (choices codes.now) side.now (B.bar bars.old / 2 ^ 32) }
+    ensures served { B.yard bars.new ≡ codes.now }
+    ensures home { B.home bars.new ≡ B.home bars.old }
+    ensures runs { Runs (choices codes.now) job (state (B.bar bars.old) best.old log.old store.old)
+        (state (B.bar bars.new) best.new log.new store.new) }
+    ensures prefix { store.new.prefix ≡ store.old.prefix }
+    ensures shown { IfOk result (λ shown. (shown.number + 1 ≡ length log.new)
+        × IsShown (choices codes.now) (state (B.bar bars.old) best.old log.old store.old)
+        (state (B.bar bars.new) best.new log.new store.new) shown.tie shown.number
+        (node_box (choices codes.now) side.now range.block range.lo range.hi)) }
+{
+    let mut cites = Vec::new(alloc);
+    let mut needs = Blocks::none();
+    let mut tie = false;
+    for code in range.lo..range.hi {
+        let settled = settle(
+            alloc,
+            codes,
+            tables,
+            job,
+            bars,
+            best,
+            log,
+            store,
+            hints,
+            side,
+            range.block,
+            code,
+            &mut needs,
+            false,
+        )?;
+        let covered = settled.covered;
+        if settled.jumps {
+            if let Some(number) = covered.cite {
+                return Ok(Shown {
+                    number,
+                    tie: covered.tie,
+                });
+            }
+        }
+        note(&mut cites, covered.cite)?;
+        tie |= covered.tie;
+    }
+    close(alloc, codes, log, store, side, range, &needs, cites, tie)
+}
+
+/// Refutes the box, for all but the best plan so far and what the bar leaves: by its bounds, or by its codes of a block
+/// that it leaves open. Answers the record whose result contains the box.
+#[cycle(refute)]
+fn refute<B: Bars>(
+    alloc: Global,
+    codes: &Codes,
+    tables: &YardTables<'_>,
+    job: Job,
+    bars: &mut B,
+    best: &mut Option<Plan>,
+    log: &mut Log,
+    store: &mut Nogoods,
+    hints: &mut Hints,
+    part: &PlanBox,
+    block: u8,
+) -> Result<Shown, NoMemory>
+    requires tables { tables.now.yard ≡ codes.now }
+    requires served { B.yard bars.old ≡ codes.now }
+    requires ready { IsReady (choices codes.now) job (state (B.bar bars.old) best.old log.old store.old) }
+    requires open { IsOpenBox (choices codes.now) job part.now }
+    requires block { block < blocks (choices codes.now) }
+    requires unset { exact_code part.now block ≡ None }
+    ensures served { B.yard bars.new ≡ codes.now }
+    ensures home { B.home bars.new ≡ B.home bars.old }
+    ensures runs { Runs (choices codes.now) job (state (B.bar bars.old) best.old log.old store.old)
+        (state (B.bar bars.new) best.new log.new store.new) }
+    ensures prefix { store.new.prefix ≡ store.old.prefix }
+    ensures shown { IfOk result (λ shown. (shown.number + 1 ≡ length log.new)
+        × IsShown (choices codes.now) (state (B.bar bars.old) best.old log.old store.old)
+        (state (B.bar bars.new) best.new log.new store.new) shown.tie shown.number part.now) }
+{
+    hints.enter();
+    if let Some(shown) = bounded(alloc, codes, tables, job, bars, best, log, store, part)? {
+        return Ok(shown);
+    }
+    let range = range_on(codes, part, block);
+    let side = without(alloc, part, block)?;
+    divide(
+        alloc, codes, tables, job, bars, best, log, store, hints, &side, range,
+    )
+}
+
+/// Goes on below a box: along the best plan, or as the search chooses.
+#[cycle(refute)]
+fn deeper<B: Bars>(
+    alloc: Global,
+    codes: &Codes,
+    tables: &YardTables<'_>,
+    job: Job,
+    bars: &mut B,
+    best: &mut Option<Plan>,
+    log: &mut Log,
+    store: &mut Nogoods,
+    hints: &mut Hints,
+    part: &PlanBox,
+    block: u8,
+    walk: bool,
+) -> Result<Shown, NoMemory>
+    requires tables { tables.now.yard ≡ codes.now }
+    requires served { B.yard bars.old ≡ codes.now }
+    requires ready { IsReady (choices codes.now) job (state (B.bar bars.old) best.old log.old store.old) }
+    requires open { IsOpenBox (choices codes.now) job part.now }
+    requires block { block < blocks (choices codes.now) }
+    requires unset { exact_code part.now block ≡ None }
+    ensures served { B.yard bars.new ≡ codes.now }
+    ensures home { B.home bars.new ≡ B.home bars.old }
+    ensures runs { Runs (choices codes.now) job (state (B.bar bars.old) best.old log.old store.old)
+        (state (B.bar bars.new) best.new log.new store.new) }
+    ensures prefix { store.new.prefix ≡ store.old.prefix }
+    ensures shown { IfOk result (λ shown. (shown.number + 1 ≡ length log.new)
+        × IsShown (choices codes.now) (state (B.bar bars.old) best.old log.old store.old)
+        (state (B.bar bars.new) best.new log.new store.new) shown.tie shown.number part.now) }
+{
+    if !walk {
+        return refute(
+            alloc, codes, tables, job, bars, best, log, store, hints, part, block,
+        );
+    }
+    let range = range_on(codes, part, block);
+    let side = without(alloc, part, block)?;
+    along(
+        alloc, codes, tables, job, bars, best, log, store, hints, &side, range,
+    )
+}
+
+/// Settles some codes of a block beside a side: by one record where there are several.
+#[cycle(refute)]
+fn settle_range<B: Bars>(
+    alloc: Global,
+    codes: &Codes,
+    tables: &YardTables<'_>,
+    job: Job,
+    bars: &mut B,
+    best: &mut Option<Plan>,
+    log: &mut Log,
+    store: &mut Nogoods,
+    hints: &mut Hints,
+    side: &PlanBox,
+    range: Literal,
+    needs: &mut Blocks,
+) -> Result<Covered, NoMemory>
+    requires tables { tables.now.yard ≡ codes.now }
+    requires served { B.yard bars.old ≡ codes.now }
+    requires ready { IsReady (choices codes.now) job (state (B.bar bars.old) best.old log.old store.old) }
+    requires node { range.lo < range.hi → IsNode (choices codes.now) job side.now range.block range.lo range.hi }
+    requires cut { range.lo + 1 < range.hi → (0 < range.lo) ⊎ (range.hi < count (choices codes.now) range.block) }
+    ensures served { B.yard bars.new ≡ codes.now }
+    ensures home { B.home bars.new ≡ B.home bars.old }
+    ensures runs { Runs (choices codes.now) job (state (B.bar bars.old) best.old log.old store.old)
+        (state (B.bar bars.new) best.new log.new store.new) }
+    ensures prefix { store.new.prefix ≡ store.old.prefix }
+    ensures needs { (x : ℕ) → has needs.old x ≡ true → has needs.new x ≡ true }
+    ensures covered { IfOk result (λ r. ((code : ℕ) → range.lo ≤ code → code < range.hi
+        → IsHandledBy (choices codes.now) (state (B.bar bars.old) best.old log.old store.old)
+        (state (B.bar bars.new) best.new log.new store.new) r.tie side.now (has needs.new) (option_to_list r.cite) range.block code)
+        × AreCited (choices codes.now) (state (B.bar bars.old) best.old log.old store.old)
+        (state (B.bar bars.new) best.new log.new store.new) r.tie (option_to_list r.cite)) }
+{
+    if range.hi <= range.lo {
+        return Ok(Covered {
+            cite: None,
+            tie: false,
+        });
+    }
+    if range.hi == range.lo + 1 {
+        let settled = settle(
+            alloc,
+            codes,
+            tables,
+            job,
+            bars,
+            best,
+            log,
+            store,
+            hints,
+            side,
+            range.block,
+            range.lo,
+            needs,
+            false,
+        )?;
+        return Ok(settled.covered);
+    }
+    let part = with(alloc, side, range)?;
+    let next = open_or(codes, &part, range.block);
+    let shown = refute(
+        alloc, codes, tables, job, bars, best, log, store, hints, &part, next,
+    )?;
+    add_result(codes, &log.records()[shown.number as usize], needs);
+    Ok(Covered {
+        cite: Some(shown.number),
+        tie: shown.tie,
+    })
+}
+
+/// Walks along the best plan: its own code of the block is settled first, down to the last block; then the codes above it
+/// as one range, whose boxes are behind the plan, and the codes below it as one range.
+#[cycle(refute)]
+pub(crate) fn along<B: Bars>(
+    alloc: Global,
+    codes: &Codes,
+    tables: &YardTables<'_>,
+    job: Job,
+    bars: &mut B,
+    best: &mut Option<Plan>,
+    log: &mut Log,
+    store: &mut Nogoods,
+    hints: &mut Hints,
+    side: &PlanBox,
+    range: Literal,
+) -> Result<Shown, NoMemory>
+    requires tables { tables.now.yard ≡ codes.now }
+    requires served { B.yard bars.old ≡ codes.now }
+    requires ready { IsReady (choices codes.now) job (state (B.bar bars.old) best.old log.old store.old) }
+    requires node { IsNode (choices codes.now) job side.now range.block range.lo range.hi }
+    ensures served { B.yard bars.new ≡ codes.now }
+    ensures home { B.home bars.new ≡ B.home bars.old }
+    ensures runs { Runs (choices codes.now) job (state (B.bar bars.old) best.old log.old store.old)
+        (state (B.bar bars.new) best.new log.new store.new) }
+    ensures prefix { store.new.prefix ≡ store.old.prefix }
+    ensures shown { IfOk result (λ shown. (shown.number + 1 ≡ length log.new)
+        × IsShown (choices codes.now) (state (B.bar bars.old) best.old log.old store.old)
+        (state (B.bar bars.new) best.new log.new store.new) shown.tie shown.number
+        (node_box (choices codes.now) side.now range.block range.lo range.hi)) }
+{
+    if let Some(shown) = bounded(alloc, codes, tables, job, bars, best, log, store, side)? {
+        return Ok(shown);
+    }
+    let Some(code) = own_code(best, range) else {
+        return divide(
+            alloc, codes, tables, job, bars, best, log, store, hints, side, range,
+        );
+    };
+    let mut needs = Blocks::none();
+    let own = settle(
+        alloc,
+        codes,
+        tables,
+        job,
+        bars,
+        best,
+        log,
+        store,
+        hints,
+        side,
+        range.block,
+        code,
+        &mut needs,
+        true,
+    )?;
+    let upper = Literal {
+        block: range.block,
+        lo: code + 1,
+        hi: range.hi,
+    };
+    let above = settle_range(
+        alloc, codes, tables, job, bars, best, log, store, hints, side, upper, &mut needs,
+    )?;
+    let lower = Literal {
+        block: range.block,
+        lo: range.lo,
+        hi: code,
+    };
+    let below = settle_range(
+        alloc, codes, tables, job, bars, best, log, store, hints, side, lower, &mut needs,
+    )?;
+    let cites = cites_of(alloc, own.covered.cite, above.cite, below.cite)?;
+    let tie = own.covered.tie | above.tie | below.tie;
+    close(alloc, codes, log, store, side, range, &needs, cites, tie)
+}
