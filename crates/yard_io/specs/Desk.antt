@@ -1,5 +1,5 @@
 -- What a desk tells of its files and of what was said, and when a call may fail.
-use Rattle.std.specs.Prelude.{◌≡◌, ℕ, ◌+◌, ◌-◌, ◌^◌, ◌≤◌, ◌<◌, min, Bool, List, ◌++◌, length, take, drop, Option, Some, None, option_map, unwrap_or, [], Result, if◌then◌else◌, IfSome, IsErrOf}
+use Rattle.std.specs.Prelude.{◌≡◌, ℕ, ◌+◌, ◌-◌, ◌^◌, ◌≤◌, ◌<◌, min, Bool, List, ◌++◌, length, take, drop, ◌⊎◌, Option, Some, None, option_map, unwrap_or, [], Result, if◌then◌else◌, IfSome, IsErrOf}
 use Rattle.std.specs.Str.{bytes_eq}
 use Rattle.yard_io.specs.declared.trouble.Trouble.{Trouble}
 use Rattle.yard_io.specs.declared.trouble.Trouble.TheVariants.{Failed}
@@ -54,3 +54,8 @@ then_said said bytes = option_map (λ s. s ++ bytes) said
 -- a front of the bytes was said
 abbrev pub SaidFront : Option (List ℕ) → Option (List ℕ) → List ℕ → Type 0
 SaidFront old new bytes = (n : ℕ) × (n ≤ length bytes) × (new ≡ then_said old (take n bytes))
+
+-- the named file has a front of the bytes and all others stay, or the files are as they were
+abbrev pub MadeFront : Bool → Files → Files → List ℕ → List ℕ → Type 0
+MadeFront tells old new name bytes =
+    SameFiles old new ⊎ ((n : ℕ) × (n ≤ length bytes) × Sets tells old new name (take n bytes))

@@ -17,6 +17,7 @@ mod reading;
 mod real;
 mod saying;
 mod trouble;
+mod writing;
 
 pub use calls::DeskCall;
 pub use desk::Desk;
@@ -27,6 +28,7 @@ pub use reading::{read_bytes, read_file};
 pub use real::RealDesk;
 pub use saying::say_all;
 pub use trouble::Trouble;
+pub use writing::write_file;
 
 #[cfg(test)]
 mod tests;
