@@ -1,6 +1,6 @@
 -- A yard that the reader accepts can be planned: it has a plate and a block, and no block has too many placements.
 use Rattle.std.proofs.Common.{◌≡◌, ℕ, zero, ◌+◌, ◌<◌, ◌≤◌, Bool, true, false, cond, List, [], ◌∷◌, ◌++◌, length, Option, Some, None, Result, Ok, Err, refl, ap, subst, ◌∙◌, arith, length-append}
-use Rattle.std.specs.Prelude.{nat_lt, if◌then◌else◌}
+use Rattle.std.specs.Prelude.{nat_lt, if◌then◌else◌, IfOk}
 use Rattle.std.proofs.lemmas.Bool.{ltb-false}
 use Rattle.toml.specs.Data.{Items, no_items, item, Members}
 use Rattle.shape_exact.specs.Yards.{PlainYard, plate_names, block_names}
@@ -18,7 +18,7 @@ use Rattle.yard_file.specs.Blocks.{block_of, blocks_from}
 use Rattle.yard_file.specs.Pieces.{pieces_from}
 use Rattle.yard_file.specs.Sizes.{too_many, first_too_many}
 use Rattle.yard_file.specs.Documents.{document}
-use Rattle.yard_file.specs.Reads.{version_in, unless, sized, rules, document_yard, yard_of}
+use Rattle.yard_file.specs.Reads.{version_in, unless, sized, rules, document_yard, yard_of, Gives}
 use Rattle.yard_file.specs.declared.place.At.TheVariants as places
 use Rattle.yard_file.specs.declared.place.Key.TheVariants as keys
 use Rattle.yard_file.specs.declared.fault.YardFault.{YardFault}
@@ -175,3 +175,8 @@ can_be_planned bytes yard e =
     let plates : length {A = Plate} [] + count t.plates ≤ length yard.plates = plates_long t.days 0 [] t.plates yard.plates t.plates_give in
     let blocks : length {A = Block} [] + count t.blocks ≤ length yard.blocks = blocks_long t.version 0 [] t.blocks yard.blocks t.blocks_give in
     record { plates = omega (arith, plate, plates); blocks = omega (arith, block, blocks); few = few_placements yard t.none_many }
+
+-- the same of the answer of a reader, where it is a yard
+pub reads_planned : (bytes : List ℕ) (answer : Result PlainYard YardFault) → Gives answer (yard_of bytes) → IfOk answer CanBePlanned
+reads_planned bytes (Ok yard) is = can_be_planned bytes yard is
+reads_planned bytes (Err fault) is = tt

@@ -1,3 +1,3 @@
 pub mod AcceptedLaws
 pub mod AnswerLaws
-pub mod LengthLaws
+pub mod FileLaws

@@ -1,2 +1,7 @@
 pub mod Accepted
 pub mod Answers
+pub mod CheckAnswers
+pub mod PlanAnswers
+pub mod Refusals
+pub mod Words
+pub mod YardTexts

@@ -1,21 +1,19 @@
 //! The command `plan YARD`.
 ghost use Rattle.std.specs.Prelude.{◌≡◌, ◌≤◌, IfOk};
 ghost use Rattle.yard_io.specs.Desk.{Same, HasCause};
-ghost use Rattle.yard_file.specs.Reads.{yard_of};
-ghost use Rattle.scheduler_run.specs.Answers.{AnswersFile, AnswersYard, PlansYard};
+ghost use Rattle.scheduler_run.specs.YardTexts.{yard_in};
+ghost use Rattle.scheduler_run.specs.PlanAnswers.{AnswersFile, AnswersYard, PlansYard};
 ghost use Rattle.scheduler_run.specs.Accepted.{CanBePlanned};
 
 use crate::reply::{Reply, refusal};
+use crate::yard_text::{YardText, read_yard_text, yard_of_text};
 use code_table::Codes;
 use plain_search::best_plan;
 use plan_text::print_plan;
 use shape_exact::{NoMemory, Yard};
 use std::alloc::Global;
-use yard_file::{YardFault, read_yard};
-use yard_io::{Desk, Trouble, read_bytes};
-
-/// The most bytes that a yard's file may have.
-const LONGEST: u64 = 1_048_576;
+use yard_file::YardFault;
+use yard_io::{Desk, Trouble};
 
 /// The reply to a yard: its best plan, or that there is none.
 fn reply_to_yard(alloc: Global, yard: &Yard) -> Result<Reply, NoMemory>
@@ -36,19 +34,20 @@ fn reply_to_yard(alloc: Global, yard: &Yard) -> Result<Reply, NoMemory>
     Ok(reply)
 }
 
-/// The reply to the bytes of a yard's file.
-fn reply_to_bytes(alloc: Global, bytes: &[u8]) -> Result<Reply, NoMemory>
-    ensures { IfOk result (λ reply. AnswersYard (yard_of bytes.now) reply.status reply.text.items) }
+/// The reply to the text of a yard's file.
+fn reply_to_text(alloc: Global, text: &YardText) -> Result<Reply, NoMemory>
+    ensures { IfOk result (λ reply. AnswersYard (yard_in text.now) reply.status reply.text.items) }
 {
-    match read_yard(alloc, bytes) {
+    match yard_of_text(alloc, text) {
         Ok(yard) => reply_to_yard(alloc, &yard),
         Err(YardFault::Memory) => Err(NoMemory),
-        Err(fault) => refusal(alloc, &fault),
+        Err(fault) => Ok(refusal(fault.line(alloc)?)),
     }
 }
 
 /// The reply to the file of this name. A file that is too long is refused unread.
-pub(crate) fn reply_to_file<D: Desk>(
+#[tactic(auto, using(crate::proofs::FileLaws::answers_file))]
+pub(crate) fn reply_to_plan<D: Desk>(
     alloc: Global,
     yard: &str,
     desk: &mut D,
@@ -59,10 +58,6 @@ pub(crate) fn reply_to_file<D: Desk>(
     ensures cause { HasCause (D.read_faults desk.old) (D.read_faults desk.new) result }
     ensures writes { D.write_faults desk.old ≤ D.write_faults desk.new }
 {
-    let total = desk.length(yard)?;
-    if total > LONGEST {
-        return Ok(refusal(alloc, &YardFault::TooLong)?);
-    }
-    let bytes = read_bytes(alloc, desk, yard, total)?;
-    Ok(reply_to_bytes(alloc, bytes.as_slice())?)
+    let text = read_yard_text(alloc, desk, yard)?;
+    Ok(reply_to_text(alloc, &text)?)
 }

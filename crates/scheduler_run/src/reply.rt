@@ -1,11 +1,9 @@
 //! What a run is to say, and the status that goes with it.
 ghost use Rattle.std.specs.Prelude.{◌≡◌, IfOk};
-ghost use Rattle.yard_file.specs.Lines.{line};
-ghost use Rattle.scheduler_run.specs.Answers.{IsUsage, IsRefusal};
+ghost use Rattle.scheduler_run.specs.Refusals.{IsUsage, IsRefusal};
 
 use shape_exact::NoMemory;
 use std::alloc::Global;
-use yard_file::YardFault;
 
 /// What a run is to say, and the status that goes with it.
 #[derive(Drop)]
@@ -18,14 +16,16 @@ pub(crate) struct Reply {
 pub(crate) fn usage(alloc: Global) -> Result<Reply, NoMemory>
     ensures { IfOk result (λ reply. IsUsage reply.status reply.text.items) }
 {
-    let text = Vec::from_slice(alloc, b"usage: plan YARD\n")?;
+    let text = Vec::from_slice(alloc, b"usage: plan YARD | check YARD PLAN LOG\n")?;
     Ok(Reply { status: 2, text })
 }
 
-/// The line of a refusal.
-pub(crate) fn refusal(alloc: Global, fault: &YardFault) -> Result<Reply, NoMemory>
-    ensures { IfOk result (λ reply. IsRefusal fault.now reply.status reply.text.items) }
+/// The reply of a refusal with this line.
+pub(crate) fn refusal(line: Vec<u8>) -> Reply
+    ensures { IsRefusal line.items result.status result.text.items }
 {
-    let text = fault.line(alloc)?;
-    Ok(Reply { status: 1, text })
+    Reply {
+        status: 1,
+        text: line,
+    }
 }

@@ -2,6 +2,7 @@
 ghost use Rattle.std.specs.Prelude.{◌≡◌};
 
 mod calling;
+mod checks;
 mod early;
 mod logs;
 mod outside;
@@ -20,11 +21,16 @@ use yard_file::read_yard;
 use yard_io::{OpenGate, QuietDesk, RealDesk};
 use yards::*;
 
+const USAGE: &str = "usage: plan YARD | check YARD PLAN LOG\n";
+
 #[test]
 fn words_and_bytes(rt: HostRuntime) -> Result<(), Fail> {
-    let cases: [(&[&str], &[u8], u8, &str); 5] = [
-        (&[], b"", 2, "usage: plan YARD\n"),
-        (&["plan"], b"", 2, "usage: plan YARD\n"),
+    let cases: [(&[&str], &[u8], u8, &str); 8] = [
+        (&[], b"", 2, USAGE),
+        (&["plan"], b"", 2, USAGE),
+        (&["check", "y", "p"], b"", 2, USAGE),
+        (&["check", "y", "p", "l", "m"], b"", 2, USAGE),
+        (&["checks", "y", "p", "l"], b"", 2, USAGE),
         (
             &["plan", "y"],
             b"version = 1\ndays = ",

@@ -2,37 +2,33 @@
 ghost use Rattle.std.specs.Prelude.{◌≡◌, ◌≢◌, ◌≤◌, ◌⊎◌, ◌↔◌, ℕ, List, IfOk, IsErrOf, map, option_map};
 ghost use Rattle.yard_io.specs.Desk.{Same, SameFiles, HasCause, Rose, SaidFront, then_said};
 ghost use Rattle.yard_io.specs.QuietDesk.{file_of, said_of};
-ghost use Rattle.scheduler_run.specs.Answers.{Answers, yard_word, IsAnswered, IsCutShort, SaysAnswer, SaysFront};
+ghost use Rattle.scheduler_run.specs.Words.{asked, asked_by};
+ghost use Rattle.scheduler_run.specs.Answers.{Answers, Shows, IsAnswered, IsCutShort, SaysAnswer, SaysFront};
 
 use crate::Status;
-use crate::plan_command::reply_to_file;
+use crate::check_command::reply_to_check;
+use crate::command::{Command, command_of};
+use crate::plan_command::reply_to_plan;
 use crate::reply::{Reply, usage};
 use std::alloc::Global;
 use std::thread::Threads;
 use yard_io::{Desk, Gate, OpenGate, QuietDesk, Trouble, say_all};
 
-/// The word YARD of `plan YARD`; None where the words are others.
-fn yard_word<'a>(words: &[&'a str]) -> Option<&'a str>
-    ensures { option_map (λ w. w.now) result ≡ yard_word (map (λ w. w.now) words.now) }
-{
-    match words {
-        [command, yard] if *command == "plan" => Some(yard),
-        _ => None,
-    }
-}
-
 /// The reply to the words.
 fn reply_to<D: Desk>(alloc: Global, words: &[&str], desk: &mut D) -> Result<Reply, Trouble>
     ensures answer { IfOk result (λ reply.
         Answers (map (λ w. w.now) words.now) (D.file desk.old) reply.status reply.text.items) }
+    ensures shows { IfOk result (λ reply.
+        reply.status ≡ 0 → Shows (map (λ w. w.now) words.now) (D.file desk.old)) }
     ensures answered { IfOk result (λ reply. IsAnswered reply.status) }
     ensures same { Same (D.file desk.old) (D.said desk.old) (D.file desk.new) (D.said desk.new) }
-    ensures words { yard_word (map (λ w. w.now) words.now) ≡ None → IsErrOf result Trouble.Failed → ⊥ }
+    ensures words { asked (map (λ w. w.now) words.now) ≡ None → IsErrOf result Trouble.Failed → ⊥ }
     ensures cause { HasCause (D.read_faults desk.old) (D.read_faults desk.new) result }
     ensures writes { D.write_faults desk.old ≤ D.write_faults desk.new }
 {
-    match yard_word(words) {
-        Some(yard) => reply_to_file(alloc, yard, desk),
+    match command_of(words) {
+        Some(Command::Plan { yard }) => reply_to_plan(alloc, yard, desk),
+        Some(Command::Check { yard, plan, log }) => reply_to_check(alloc, yard, plan, log, desk),
         None => Ok(usage(alloc)?),
     }
 }
@@ -69,8 +65,9 @@ pub fn run<R: Threads + Sync, D: Desk, G: Gate + Sync>(
 ) -> Status
     ensures answer { IsAnswered result.0 →
         SaysAnswer (map (λ w. w.now) words.now) (D.file desk.old) result.0 (D.said desk.old) (D.said desk.new) }
-    ensures usage { IsAnswered result.0 → (result.0 ≡ 2) ↔ (yard_word (map (λ w. w.now) words.now) ≡ None) }
-    ensures words { yard_word (map (λ w. w.now) words.now) ≡ None → result.0 ≢ 4 }
+    ensures shows { result.0 ≡ 0 → Shows (map (λ w. w.now) words.now) (D.file desk.old) }
+    ensures usage { IsAnswered result.0 → (result.0 ≡ 2) ↔ (asked (map (λ w. w.now) words.now) ≡ None) }
+    ensures words { asked (map (λ w. w.now) words.now) ≡ None → result.0 ≢ 4 }
     ensures read_fault { result.0 ≡ 4 → Rose (D.read_faults desk.old) (D.read_faults desk.new) }
     ensures write_fault { result.0 ≡ 5 → Rose (D.write_faults desk.old) (D.write_faults desk.new) }
     ensures silent { result.0 ≡ 4 → D.said desk.new ≡ D.said desk.old }

@@ -10,7 +10,8 @@ use yard_io::{OpenGate, QuietDesk};
 /// Bytes that no reader of TOML takes: three pieces of eight bytes.
 const CUT_OFF: &str = "version = 1\ndays = ";
 
-/// A desk with this file `y`, in pieces of eight bytes, that says so many bytes and then fails.
+/// A desk with this file `y`, the files `p` and `l` of a plan and a log, in pieces of eight bytes, that says so many bytes
+/// and then fails.
 fn watched(alloc: Global, parts: &[&str], left: usize) -> Option<WatchedDesk> {
     let mut yard = Vec::new(alloc);
     for part in parts {
@@ -18,17 +19,21 @@ fn watched(alloc: Global, parts: &[&str], left: usize) -> Option<WatchedDesk> {
     }
     let mut quiet = QuietDesk::new(alloc, 8).ok()?;
     quiet.put("y", yard.as_slice()).ok()?;
+    quiet.put("p", b"no plan\n").ok()?;
+    quiet.put("l", b"log 1\n").ok()?;
     Some(WatchedDesk::new(alloc, quiet, left))
 }
 
 #[test]
 fn a_desk_that_takes_no_more_is_a_write_fault(rt: HostRuntime) -> Result<(), Fail> {
     let square: &[&str] = &[TEN_DAYS, PLATE_4X3, A, SQUARE_2, TWO_DAYS_DUE_1];
-    let cases: [(&[&str], &[&str], usize, &str); 6] = [
+    let cases: [(&[&str], &[&str], usize, &str); 8] = [
         (&["plan", "y"], square, 0, ""),
         (&["plan", "y"], square, 4, "plan"),
         (&["plan", "y"], &[CUT_OFF], 0, ""),
         (&["plan", "y"], &[CUT_OFF], 4, "refu"),
+        (&["check", "y", "p", "l"], square, 0, ""),
+        (&["check", "y", "p", "l"], square, 13, "refused log 3"),
         (&[], square, 0, ""),
         (&[], square, 4, "usag"),
     ];
@@ -47,7 +52,7 @@ fn a_desk_that_takes_no_more_is_a_write_fault(rt: HostRuntime) -> Result<(), Fai
 
 #[test]
 fn one_length_then_reads_then_what_is_said(rt: HostRuntime) -> Result<(), Fail> {
-    let cases: [(&[&str], u8, &[Call]); 2] = [
+    let cases: [(&[&str], u8, &[Call]); 3] = [
         (
             &["plan", "y"],
             1,
@@ -61,7 +66,28 @@ fn one_length_then_reads_then_what_is_said(rt: HostRuntime) -> Result<(), Fail> 
                 Call::Say,
             ],
         ),
-        (&["plan"], 2, &[Call::Say, Call::Say, Call::Say]),
+        (
+            &["check", "y", "p", "l"],
+            1,
+            &[
+                Call::Length,
+                Call::Read,
+                Call::Read,
+                Call::Read,
+                Call::Length,
+                Call::Read,
+                Call::Length,
+                Call::Read,
+                Call::Say,
+                Call::Say,
+                Call::Say,
+            ],
+        ),
+        (
+            &["plan"],
+            2,
+            &[Call::Say, Call::Say, Call::Say, Call::Say, Call::Say],
+        ),
     ];
     for (words, status, calls) in cases {
         let Some(mut desk) = watched(rt.alloc(), &[CUT_OFF], 1_000) else {
