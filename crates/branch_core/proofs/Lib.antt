@@ -1,0 +1,6 @@
+pub mod SolveLaws
+pub mod RegionLaws
+pub mod HitLaws
+pub mod EmptyLaws
+pub mod ProperLaws
+pub mod AnswerLaws
