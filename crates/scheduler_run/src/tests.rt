@@ -4,6 +4,7 @@ ghost use Rattle.std.specs.Prelude.{◌≡◌};
 mod calling;
 mod checks;
 mod early;
+mod failing;
 mod logs;
 mod outside;
 mod regions;
