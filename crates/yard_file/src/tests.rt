@@ -162,6 +162,22 @@ fn says_the_refusal(rt: HostRuntime) -> Result<(), Fail> {
         ),
         (b"".as_slice(), "refused yard 3 Missing top version\n"),
         (
+            b"version = 1\ndays = 10\ncrane = 1\n".as_slice(),
+            "refused yard 4 Unknown top crane\n",
+        ),
+        (
+            b"version = 1\ndays = 10\n".as_slice(),
+            "refused yard 8 NoPlate\n",
+        ),
+        (
+            b"version = 1\ndays = 10\nplate = [{}]\n".as_slice(),
+            "refused yard 10 NoBlock\n",
+        ),
+        (
+            b"version = 1\ndays = 10\n[plate]\n".as_slice(),
+            "refused yard 5 Kind top plate\n",
+        ),
+        (
             heavy.as_bytes(),
             "refused yard 17 TooManyPlacements 0 1064960\n",
         ),
