@@ -1,5 +1,5 @@
 -- The text of a generated yard.
-use Rattle.std.specs.Prelude.{ℕ, ◌+◌, ◌-◌, ◌%◌, Bool, nat_le, List, [], ◌∷◌, ◌++◌, codes}
+use Rattle.std.specs.Prelude.{ℕ, ◌+◌, ◌-◌, ◌%◌, nat_le, List, [], ◌∷◌, ◌++◌, codes}
 use Rattle.std.specs.List.{filter, range_with_len}
 use Rattle.std.specs.Fmt.{decimal}
 use Rattle.yard_generator.specs.declared.draws.Drawn.{Drawn}
