@@ -13,10 +13,12 @@ ghost use Rattle.branch_kernel.specs.Shows.{AreCited, IsHandledBy, IsShown};
 ghost use Rattle.branch_kernel.specs.Covers.{CoversCode};
 
 use crate::Hints;
+use crate::choose::choose;
+use crate::fits::fitted;
 use crate::open::{first_open, open_or};
 use crate::own::{cites_of, note, own_code};
 use branch_kernel::{
-    Bars, Blocks, Coverage, Covered, Shown, add_result, bounded, close, cover, cover_by_plan,
+    Bars, Blocks, Coverage, Covered, Shown, add_result, close, cover, cover_by_plan,
     cover_by_record, names, range_on, with, without,
 };
 use code_table::Codes;
@@ -130,6 +132,7 @@ fn divide<B: Bars>(
         (state (B.bar bars.new) best.new log.new store.new) shown.tie shown.number
         (node_box (choices codes.now) side.now range.block range.lo range.hi)) }
 {
+    hints.note_rank(range.block, side.literals().len());
     let mut cites = Vec::new(alloc);
     let mut needs = Blocks::none();
     let mut tie = false;
@@ -197,11 +200,14 @@ fn refute<B: Bars>(
         (state (B.bar bars.new) best.new log.new store.new) shown.tie shown.number part.now) }
 {
     hints.enter();
-    if let Some(shown) = bounded(alloc, codes, tables, job, bars, best, log, store, part)? {
+    if let Some(shown) = fitted(
+        alloc, codes, tables, job, bars, best, log, store, hints, part,
+    )? {
         return Ok(shown);
     }
-    let range = range_on(codes, part, block);
-    let side = without(alloc, part, block)?;
+    let chosen = choose(alloc, codes, tables, hints, part, block)?;
+    let range = range_on(codes, part, chosen);
+    let side = without(alloc, part, chosen)?;
     divide(
         alloc, codes, tables, job, bars, best, log, store, hints, &side, range,
     )
@@ -350,9 +356,12 @@ pub(crate) fn along<B: Bars>(
         (state (B.bar bars.new) best.new log.new store.new) shown.tie shown.number
         (node_box (choices codes.now) side.now range.block range.lo range.hi)) }
 {
-    if let Some(shown) = bounded(alloc, codes, tables, job, bars, best, log, store, side)? {
+    if let Some(shown) = fitted(
+        alloc, codes, tables, job, bars, best, log, store, hints, side,
+    )? {
         return Ok(shown);
     }
+    hints.note_rank(range.block, side.literals().len());
     let Some(code) = own_code(best, range) else {
         return divide(
             alloc, codes, tables, job, bars, best, log, store, hints, side, range,

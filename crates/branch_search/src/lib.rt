@@ -6,8 +6,11 @@
 //! (`docs/SEARCH.md`).
 #![tactic(auto)]
 
+mod choose;
 mod cycle;
+mod fits;
 mod hints;
+mod levels;
 mod open;
 mod own;
 mod search;

@@ -1,7 +1,7 @@
-use Rattle.std.proofs.Common.{◌≡◌, ℕ, ◌+◌, ◌*◌, ◌<◌, ◌∙◌, refl, sym, ap, subst, inl, inr, arith, length}
+use Rattle.std.proofs.Common.{◌≡◌, ◌+◌, ◌*◌, ◌<◌, ◌∙◌, refl, sym, ap, subst, inl, inr, arith, length}
 use Rattle.std.specs.Prelude.{option_to_list}
 use Rattle.std.proofs.lemmas.Option.{same_Some}
-use Rattle.plan_rule.specs.Boxes.{with_literal, exact}
+use Rattle.plan_rule.specs.Boxes.{exact}
 use Rattle.plan_rule.specs.Yards.{choices}
 use Rattle.branch_kernel.specs.States.{state}
 use Rattle.branch_kernel.specs.Boxes.{inexact}
@@ -9,9 +9,9 @@ use Rattle.branch_kernel.specs.Marks.{has}
 use Rattle.branch_kernel.specs.declared.covering.Covered.{Covered}
 use Rattle.branch_kernel.specs.Shows.{IsHandledBy, IsShown}
 use Rattle.branch_kernel.proofs.NodeLaws.{runs_self, runs_onto, ready_later, node_at, place_of_node, cited_empty, cited_once_more, ok_weaker, match_none}
-use Rattle.branch_kernel.proofs.DropLaws.{asked_self, asked_side, handled_by_more, shown_from}
-use Rattle.branch_kernel.proofs.WalkLaws.{flipped, jump_shown, jumped_node, along_settled, below_all, by_a_part, node_part, one_of_range, open_inexact, part_open, range_fewer, side_inside}
-use Rattle.branch_kernel.proofs.SettleLaws.{shown_below}
+use Rattle.branch_kernel.proofs.DropLaws.{handled_by_more, shown_from}
+use Rattle.branch_search.proofs.FitLaws.{asked_low, asked_own}
+use Rattle.branch_kernel.proofs.WalkLaws.{flipped, jump_shown, jumped_node, along_settled, below_all, by_a_part, node_part, open_inexact, part_open, range_fewer, side_inside}
 use Rattle.branch_kernel.proofs.SplitLaws.{split_node, split_inside, shown_inside, split_inexact, child_inexact}
 use Rattle.branch_kernel.proofs.CloseLaws.{closed_done}
 use Rattle.branch_search.proofs.CycleLaws.{covers_from, match_some, opened}
@@ -90,7 +90,7 @@ divide-returns-clause-shown g t c =
 pub refute-divide-requires : goal.refute-divide-requires
 refute-divide-requires g t c κs within =
     let now : 6 * inexact (choices c.args.codes.now) c.args.part.now + 2 ≡ t = c.decreases in
-    let fewer = split_inexact (choices c.args.codes.now) c.args.part.now c.in_ok-side.side c.args.block c.requires.open.part_is.ascending c.requires.unset c.in_ok-side.ensures in
+    let fewer = split_inexact (choices c.args.codes.now) c.args.part.now c.in_ok-side.side c.in_ok-chosen.chosen c.requires.open.part_is.ascending c.in_ok-chosen.ensures.open c.in_ok-side.ensures in
     let smaller : 6 * inexact (choices c.args.codes.now) c.in_ok-side.side + 1 < t = omega arith in
     let none = match_none _ _ _ c.in_ok-shown.ensures.shown c.in_default.is in (
       smaller,
@@ -99,12 +99,12 @@ refute-divide-requires g t c κs within =
         (
           c.requires.tables,
           (
-            c.bounded.ensures.served,
+            c.fitted.ensures.served,
             (
-              ready_later (choices c.args.codes.now) _ _ _ c.requires.ready c.bounded.ensures.runs,
+              ready_later (choices c.args.codes.now) _ _ _ c.requires.ready c.fitted.ensures.runs,
               (
-                split_node (choices c.args.codes.now) _ _ _ _ c.range_on-range.result c.requires.open c.requires.block c.range_on-range.ensures c.in_ok-side.ensures,
-                asked_side (choices c.args.codes.now) c.args.part.now _ _ _ _ c.requires.open.part_is c.requires.open.clear none.1 (omega arith) c.in_ok-side.ensures,
+                split_node (choices c.args.codes.now) _ _ _ _ c.range_on-range.result c.requires.open c.in_ok-chosen.ensures.block c.range_on-range.ensures c.in_ok-side.ensures,
+                asked_low (choices c.args.codes.now) c.args.part.now _ _ _ _ c.requires.open.part_is c.requires.open.clear none (omega arith) c.in_ok-side.ensures,
               ),
             ),
           ),
@@ -113,15 +113,15 @@ refute-divide-requires g t c κs within =
     )
 
 pub refute-returns-clause-runs : goal.refute-returns-clause-runs
-refute-returns-clause-runs g t c = runs_onto (choices c.args.codes.now) _ _ _ _ c.requires.ready c.bounded.ensures.runs c.divide.ensures.runs
+refute-returns-clause-runs g t c = runs_onto (choices c.args.codes.now) _ _ _ _ c.requires.ready c.fitted.ensures.runs c.divide.ensures.runs
 
 pub refute-returns-clause-shown : goal.refute-returns-clause-shown
 refute-returns-clause-shown g t c =
     ok_weaker c.divide.result _ _ (λ shown h. (
       h.0,
       shown_inside (choices c.args.codes.now) _ _ _ _ _ c.args.part.now
-          (split_inside (choices c.args.codes.now) c.args.part.now c.in_ok-side.side c.args.block c.range_on-range.result c.range_on-range.ensures c.in_ok-side.ensures)
-          (shown_from (choices c.args.codes.now) _ _ _ _ _ _ c.bounded.ensures.runs.grows h.1),
+          (split_inside (choices c.args.codes.now) c.args.part.now c.in_ok-side.side c.in_ok-chosen.chosen c.range_on-range.result c.range_on-range.ensures c.in_ok-side.ensures)
+          (shown_from (choices c.args.codes.now) _ _ _ _ _ _ c.fitted.ensures.runs.grows h.1),
     )) c.divide.ensures.shown
 
 pub deeper-refute-requires : goal.deeper-refute-requires
@@ -212,7 +212,7 @@ settle_range-returns-clause-covered g t c =
 
 pub along-returns-in-Some-clause-shown : goal.along-returns-in-Some-clause-shown
 along-returns-in-Some-clause-shown g t c =
-    let (one, last, shown) = match_some _ _ _ c.in-Some.shown c.in_ok-shown.ensures.shown c.in-Some.is in
+    let (last, shown) = match_some _ _ _ c.in-Some.shown c.in_ok-shown.ensures.shown c.in-Some.is in
     (last, shown_inside (choices c.args.codes.now) _ _ _ _ _ _ (side_inside (choices c.args.codes.now) c.args.side.now c.args.range.block c.args.range.lo c.args.range.hi c.requires.node.free) shown)
 
 pub along-divide-requires : goal.along-divide-requires
@@ -226,12 +226,12 @@ along-divide-requires g t c κs within =
         (
           c.requires.tables,
           (
-            c.bounded.ensures.served,
+            c.fitted.ensures.served,
             (
-              ready_later (choices c.args.codes.now) _ _ _ c.requires.ready c.bounded.ensures.runs,
+              ready_later (choices c.args.codes.now) _ _ _ c.requires.ready c.fitted.ensures.runs,
               (
                 c.requires.node,
-                asked_self (choices c.args.codes.now) c.args.side.now _ c.requires.node.side_is c.requires.node.clear none.1,
+                asked_own (choices c.args.codes.now) c.args.side.now _ c.requires.node.side_is c.requires.node.clear none,
               ),
             ),
           ),
@@ -240,14 +240,14 @@ along-divide-requires g t c κs within =
     )
 
 pub along-returns-in_default-own_code-clause-runs : goal.along-returns-in_default-own_code-clause-runs
-along-returns-in_default-own_code-clause-runs g t c = runs_onto (choices c.args.codes.now) _ _ _ _ c.requires.ready c.bounded.ensures.runs c.divide.ensures.runs
+along-returns-in_default-own_code-clause-runs g t c = runs_onto (choices c.args.codes.now) _ _ _ _ c.requires.ready c.fitted.ensures.runs c.divide.ensures.runs
 
 pub along-returns-in_default-own_code-clause-shown : goal.along-returns-in_default-own_code-clause-shown
 along-returns-in_default-own_code-clause-shown g t c =
-    ok_weaker c.divide.result _ _ (λ shown h. (h.0, shown_from (choices c.args.codes.now) _ _ _ _ _ _ c.bounded.ensures.runs.grows h.1)) c.divide.ensures.shown
+    ok_weaker c.divide.result _ _ (λ shown h. (h.0, shown_from (choices c.args.codes.now) _ _ _ _ _ _ c.fitted.ensures.runs.grows h.1)) c.divide.ensures.shown
 
 pub along-returns-in_err-own-clause-runs : goal.along-returns-in_err-own-clause-runs
-along-returns-in_err-own-clause-runs g t c = runs_onto (choices c.args.codes.now) _ _ _ _ c.requires.ready c.bounded.ensures.runs c.settle.ensures.runs
+along-returns-in_err-own-clause-runs g t c = runs_onto (choices c.args.codes.now) _ _ _ _ c.requires.ready c.fitted.ensures.runs c.settle.ensures.runs
 
 pub along-settle_range-requires : goal.along-settle_range-requires
 along-settle_range-requires g t c κs within =
@@ -262,7 +262,7 @@ along-settle_range-requires g t c κs within =
           (
             c.settle.ensures.served,
             (
-              ready_later (choices c.args.codes.now) _ _ _ c.requires.ready (runs_onto (choices c.args.codes.now) _ _ _ _ c.requires.ready c.bounded.ensures.runs c.settle.ensures.runs),
+              ready_later (choices c.args.codes.now) _ _ _ c.requires.ready (runs_onto (choices c.args.codes.now) _ _ _ _ c.requires.ready c.fitted.ensures.runs c.settle.ensures.runs),
               ((λ some. node_part (choices c.args.codes.now) _ _ _ _ _ _ _ c.requires.node (omega arith) (omega arith) some), (λ _. inl (omega arith))),
             ),
           ),
@@ -272,7 +272,7 @@ along-settle_range-requires g t c κs within =
 
 pub along-returns-in_err-above-clause-runs : goal.along-returns-in_err-above-clause-runs
 along-returns-in_err-above-clause-runs g t c =
-    runs_onto (choices c.args.codes.now) _ _ _ _ c.requires.ready (runs_onto (choices c.args.codes.now) _ _ _ _ c.requires.ready c.bounded.ensures.runs c.settle.ensures.runs) c.settle_range.ensures.runs
+    runs_onto (choices c.args.codes.now) _ _ _ _ c.requires.ready (runs_onto (choices c.args.codes.now) _ _ _ _ c.requires.ready c.fitted.ensures.runs c.settle.ensures.runs) c.settle_range.ensures.runs
 
 pub along-settle_range-requires-2 : goal.along-settle_range-requires-2
 along-settle_range-requires-2 g t c κs within =
@@ -288,7 +288,7 @@ along-settle_range-requires-2 g t c κs within =
             c.settle_range.ensures.served,
             (
               ready_later (choices c.args.codes.now) _ _ _ c.requires.ready
-                  (runs_onto (choices c.args.codes.now) _ _ _ _ c.requires.ready (runs_onto (choices c.args.codes.now) _ _ _ _ c.requires.ready c.bounded.ensures.runs c.settle.ensures.runs) c.settle_range.ensures.runs),
+                  (runs_onto (choices c.args.codes.now) _ _ _ _ c.requires.ready (runs_onto (choices c.args.codes.now) _ _ _ _ c.requires.ready c.fitted.ensures.runs c.settle.ensures.runs) c.settle_range.ensures.runs),
               (
                 (λ some. node_part (choices c.args.codes.now) _ _ _ _ _ _ _ c.requires.node (omega arith) (omega arith) some),
                 (λ _. inr (below_all (choices c.args.codes.now) c.args.job c.args.side.now _ _ _ c.in-Some-own_code.code c.requires.node high)),
@@ -302,18 +302,18 @@ along-settle_range-requires-2 g t c κs within =
 pub along-returns-in_err-below-clause-runs : goal.along-returns-in_err-below-clause-runs
 along-returns-in_err-below-clause-runs g t c =
     runs_onto (choices c.args.codes.now) _ _ _ _ c.requires.ready
-    (runs_onto (choices c.args.codes.now) _ _ _ _ c.requires.ready (runs_onto (choices c.args.codes.now) _ _ _ _ c.requires.ready c.bounded.ensures.runs c.settle.ensures.runs) c.settle_range.ensures.runs)
+    (runs_onto (choices c.args.codes.now) _ _ _ _ c.requires.ready (runs_onto (choices c.args.codes.now) _ _ _ _ c.requires.ready c.fitted.ensures.runs c.settle.ensures.runs) c.settle_range.ensures.runs)
     c.settle_range-2.ensures.runs
 
 pub along-returns-in_err-cites-clause-runs : goal.along-returns-in_err-cites-clause-runs
 along-returns-in_err-cites-clause-runs g t c =
     runs_onto (choices c.args.codes.now) _ _ _ _ c.requires.ready
-    (runs_onto (choices c.args.codes.now) _ _ _ _ c.requires.ready (runs_onto (choices c.args.codes.now) _ _ _ _ c.requires.ready c.bounded.ensures.runs c.settle.ensures.runs) c.settle_range.ensures.runs)
+    (runs_onto (choices c.args.codes.now) _ _ _ _ c.requires.ready (runs_onto (choices c.args.codes.now) _ _ _ _ c.requires.ready c.fitted.ensures.runs c.settle.ensures.runs) c.settle_range.ensures.runs)
     c.settle_range-2.ensures.runs
 
 pub along-close-requires-clause-cites : goal.along-close-requires-clause-cites
 along-close-requires-clause-cites g t c =
-    let ready = ready_later (choices c.args.codes.now) _ _ _ c.requires.ready c.bounded.ensures.runs in
+    let ready = ready_later (choices c.args.codes.now) _ _ _ c.requires.ready c.fitted.ensures.runs in
     let (handled, cited) = along_settled (choices c.args.codes.now) _ _ _ _ _ _ _ c.args.side.now _ _ _ _ _ _ _ c.args.range.block c.args.range.lo c.args.range.hi c.in-Some-own_code.code ready.fits
     c.settle.ensures.runs.grows c.settle_range.ensures.runs.grows c.settle_range-2.ensures.runs.grows c.settle_range.ensures.needs c.settle_range-2.ensures.needs c.in_ok-cites.ensures
     c.in_ok-own.ensures.covered c.in_ok-above.ensures.covered c.in_ok-below.ensures.covered in
@@ -322,26 +322,26 @@ along-close-requires-clause-cites g t c =
 pub along-returns-clause-runs : goal.along-returns-clause-runs
 along-returns-clause-runs g t c =
     let none = match_none _ _ _ c.in_ok-shown.ensures.shown c.in_default.is in
-    let ready = ready_later (choices c.args.codes.now) _ _ _ c.requires.ready c.bounded.ensures.runs in
+    let ready = ready_later (choices c.args.codes.now) _ _ _ c.requires.ready c.fitted.ensures.runs in
     let runs = runs_onto (choices c.args.codes.now) _ _ _ _ ready (runs_onto (choices c.args.codes.now) _ _ _ _ ready c.settle.ensures.runs c.settle_range.ensures.runs) c.settle_range-2.ensures.runs in
     let (handled, cited) = along_settled (choices c.args.codes.now) _ _ _ _ _ _ _ c.args.side.now _ _ _ _ _ _ _ c.args.range.block c.args.range.lo c.args.range.hi c.in-Some-own_code.code ready.fits
     c.settle.ensures.runs.grows c.settle_range.ensures.runs.grows c.settle_range-2.ensures.runs.grows c.settle_range.ensures.needs c.settle_range-2.ensures.needs c.in_ok-cites.ensures
     c.in_ok-own.ensures.covered c.in_ok-above.ensures.covered c.in_ok-below.ensures.covered in
-    runs_onto (choices c.args.codes.now) _ _ _ _ c.requires.ready c.bounded.ensures.runs
+    runs_onto (choices c.args.codes.now) _ _ _ _ c.requires.ready c.fitted.ensures.runs
     (closed_done (choices c.args.codes.now) _ _ _ _ _ _ _ _ _ _ _ _ _ c.args.range.hi c.close.result ready runs (place_of_node (choices c.args.codes.now) _ _ _ _ _ c.requires.node)
-    (asked_self (choices c.args.codes.now) c.args.side.now _ c.requires.node.side_is c.requires.node.clear none.1) handled (omega arith) cited c.close.ensures).0
+    (asked_own (choices c.args.codes.now) c.args.side.now _ c.requires.node.side_is c.requires.node.clear none) handled (omega arith) cited c.close.ensures).0
 
 pub along-returns-clause-shown : goal.along-returns-clause-shown
 along-returns-clause-shown g t c =
     let none = match_none _ _ _ c.in_ok-shown.ensures.shown c.in_default.is in
-    let ready = ready_later (choices c.args.codes.now) _ _ _ c.requires.ready c.bounded.ensures.runs in
+    let ready = ready_later (choices c.args.codes.now) _ _ _ c.requires.ready c.fitted.ensures.runs in
     let runs = runs_onto (choices c.args.codes.now) _ _ _ _ ready (runs_onto (choices c.args.codes.now) _ _ _ _ ready c.settle.ensures.runs c.settle_range.ensures.runs) c.settle_range-2.ensures.runs in
     let (handled, cited) = along_settled (choices c.args.codes.now) _ _ _ _ _ _ _ c.args.side.now _ _ _ _ _ _ _ c.args.range.block c.args.range.lo c.args.range.hi c.in-Some-own_code.code ready.fits
     c.settle.ensures.runs.grows c.settle_range.ensures.runs.grows c.settle_range-2.ensures.runs.grows c.settle_range.ensures.needs c.settle_range-2.ensures.needs c.in_ok-cites.ensures
     c.in_ok-own.ensures.covered c.in_ok-above.ensures.covered c.in_ok-below.ensures.covered in
-    ok_weaker c.close.result _ _ (λ shown h. (h.0, shown_from (choices c.args.codes.now) _ _ _ _ _ _ c.bounded.ensures.runs.grows h.1))
+    ok_weaker c.close.result _ _ (λ shown h. (h.0, shown_from (choices c.args.codes.now) _ _ _ _ _ _ c.fitted.ensures.runs.grows h.1))
     (closed_done (choices c.args.codes.now) _ _ _ _ _ _ _ _ _ _ _ _ _ c.args.range.hi c.close.result ready runs (place_of_node (choices c.args.codes.now) _ _ _ _ _ c.requires.node)
-    (asked_self (choices c.args.codes.now) c.args.side.now _ c.requires.node.side_is c.requires.node.clear none.1) handled (omega arith) cited c.close.ensures).1
+    (asked_own (choices c.args.codes.now) c.args.side.now _ c.requires.node.side_is c.requires.node.clear none) handled (omega arith) cited c.close.ensures).1
 
 pub settle-returns-in_err-covered-2-clause-runs : goal.settle-returns-in_err-covered-2-clause-runs
 settle-returns-in_err-covered-2-clause-runs g t c = runs_onto (choices c.args.codes.now) _ _ _ _ c.requires.ready c.cover.ensures.runs c.cover_by_plan.ensures.runs

@@ -1,0 +1,205 @@
+//! Boxes that their fit refutes, and the literals that it needs.
+ghost use Rattle.std.specs.Prelude.{◌≡◌, ◌+◌, ◌<◌, ◌≤◌, ◌/◌, ◌^◌, ℕ, Some, All, Contains, IfOk, MatchOption, Option, length};
+ghost use Rattle.plan_rule.specs.Boxes.{IsBox};
+ghost use Rattle.plan_rule.specs.Bounds.{IsFit};
+ghost use Rattle.plan_rule.specs.Yards.{choices};
+ghost use Rattle.tardiness_bounds.specs.Numbers.{number};
+ghost use Rattle.branch_kernel.specs.Known.{AreKnown};
+ghost use Rattle.branch_kernel.specs.Rivals.{Beats};
+ghost use Rattle.branch_kernel.specs.States.{IsHeld, relied, state};
+ghost use Rattle.branch_kernel.specs.Growth.{IsReady, Runs};
+ghost use Rattle.branch_kernel.specs.Shows.{IsShown};
+ghost use Rattle.branch_search.specs.Fits.{HasLowFit, IsBeatenSide};
+
+use crate::Hints;
+use crate::choose::{number_of, wanted};
+use branch_kernel::{Bars, Blocks, Shown, beats, copy, keep, write_fit};
+use code_table::Codes;
+use nogood_store::Nogoods;
+use plan_rule::{Job, Plan, PlanBox};
+use refutation_log::Log;
+use shape_exact::NoMemory;
+use std::alloc::Global;
+use tardiness_bounds::{Bound, Frontier, YardTables, fit_among};
+
+/// A box, and whether its fit beats it by a tie.
+#[derive(Drop)]
+pub(crate) struct Beaten {
+    pub side: PlanBox,
+    pub tie: bool,
+}
+
+/// The fit of the box.
+fn fit_of(
+    alloc: Global,
+    codes: &Codes,
+    tables: &YardTables<'_>,
+    part: &PlanBox,
+) -> Result<Bound, NoMemory>
+    requires tables { tables.now.yard ≡ codes.now }
+    requires part { IsBox (choices codes.now) part.now }
+    ensures { IfOk result (λ bound. IsFit (choices codes.now) part.now (number bound)) }
+{
+    fit_among(alloc, tables, part)
+}
+
+/// The fit of the literals of one code on these blocks.
+fn fit_on(
+    alloc: Global,
+    tables: &YardTables<'_>,
+    part: &PlanBox,
+    kept: &[bool; 32],
+) -> Result<u32, NoMemory> {
+    let mut front = Frontier::new(alloc, tables)?;
+    for l in part.literals() {
+        if l.block < 32
+            && kept[usize::from(l.block)]
+            && l.is_exact(l.block, l.lo)
+            && front.can_push(l.block, l.lo)
+        {
+            front.push(l.block, l.lo);
+        }
+    }
+    Ok(number_of(front.bound()))
+}
+
+/// The block of the box that was branched on last among those that were not tried.
+fn latest(part: &PlanBox, hints: &Hints, tried: &[bool; 32]) -> Option<u8> {
+    let mut found: Option<u8> = None;
+    for l in part.literals() {
+        if l.block < 32 && !tried[usize::from(l.block)] {
+            let later = match found {
+                Some(other) => hints.rank(other) <= hints.rank(l.block),
+                None => true,
+            };
+            if later {
+                found = Some(l.block);
+            }
+        }
+    }
+    found
+}
+
+/// The first blocks whose literals set the box behind a plan: those that are exact with its codes, and the next.
+fn front_blocks(part: &PlanBox, plan: &Plan) -> [bool; 32] {
+    let mut marks = [false; 32];
+    let codes = plan.codes();
+    for (i, l) in part.literals().iter().enumerate() {
+        if usize::from(l.block) != i || i >= 32 {
+            break;
+        }
+        marks[i] = true;
+        if i >= codes.len() || !l.is_exact(l.block, codes[i]) {
+            break;
+        }
+    }
+    marks
+}
+
+/// The blocks whose literals the search takes for needed by the fit of the box: those branched on last are left out first,
+/// as long as the fit stays above what is wanted. What sets the box behind the best stays where that is needed.
+fn proposal(
+    alloc: Global,
+    tables: &YardTables<'_>,
+    bar: u64,
+    best: &Option<Plan>,
+    hints: &Hints,
+    part: &PlanBox,
+) -> Result<Blocks, NoMemory> {
+    let most = hints.wanted();
+    let mut tried = [false; 32];
+    if let Some(plan) = best {
+        if u64::from(most) < bar / 0x1_0000_0000 {
+            tried = front_blocks(part, plan);
+        }
+    }
+    let mut kept = [true; 32];
+    for _ in part.literals() {
+        let Some(block) = latest(part, hints, &tried) else {
+            break;
+        };
+        if block >= 32 {
+            break;
+        }
+        tried[usize::from(block)] = true;
+        kept[usize::from(block)] = false;
+        if fit_on(alloc, tables, part, &kept)? <= most {
+            kept[usize::from(block)] = true;
+        }
+    }
+    let mut marks = Blocks::none();
+    for block in 0..32u8 {
+        if kept[usize::from(block)] {
+            marks.add(block);
+        }
+    }
+    Ok(marks)
+}
+
+/// The box whose fit beats it, of the literals that the search proposes or of all; None where the fit of all does not.
+fn beaten_side(
+    alloc: Global,
+    codes: &Codes,
+    tables: &YardTables<'_>,
+    bar: u64,
+    best: &Option<Plan>,
+    hints: &Hints,
+    part: &PlanBox,
+) -> Result<Option<Beaten>, NoMemory>
+    requires tables { tables.now.yard ≡ codes.now }
+    requires known { AreKnown (choices codes.now) }
+    requires held { IsHeld (choices codes.now) bar best.now }
+    requires part { IsBox (choices codes.now) part.now }
+    ensures { IfOk result (λ o. MatchOption o (HasLowFit (choices codes.now) part.now (bar / 2 ^ 32))
+        (λ beaten. IsBeatenSide (choices codes.now) bar best.now part.now beaten)) }
+{
+    let fit = fit_of(alloc, codes, tables, part)?;
+    let Some(tie) = beats(codes, bar, best, part, fit) else {
+        return Ok(None);
+    };
+    let marks = proposal(alloc, tables, bar, best, hints, part)?;
+    let short = keep(alloc, part, &marks)?;
+    let less = fit_of(alloc, codes, tables, &short)?;
+    if let Some(tie) = beats(codes, bar, best, &short, less) {
+        return Ok(Some(Beaten { side: short, tie }));
+    }
+    let side = copy(alloc, part)?;
+    Ok(Some(Beaten { side, tie }))
+}
+
+/// Refutes the box by its fit, where that beats it: the log gains one record, of the literals that the search takes for
+/// needed. None where the fit does not.
+pub(crate) fn fitted<B: Bars>(
+    alloc: Global,
+    codes: &Codes,
+    tables: &YardTables<'_>,
+    job: Job,
+    bars: &mut B,
+    best: &Option<Plan>,
+    log: &mut Log,
+    store: &Nogoods,
+    hints: &mut Hints,
+    part: &PlanBox,
+) -> Result<Option<Shown>, NoMemory>
+    requires tables { tables.now.yard ≡ codes.now }
+    requires served { B.yard bars.old ≡ codes.now }
+    requires ready { IsReady (choices codes.now) job (state (B.bar bars.old) best.now log.old store.now) }
+    requires part { IsBox (choices codes.now) part.now }
+    ensures served { B.yard bars.new ≡ codes.now }
+    ensures home { B.home bars.new ≡ B.home bars.old }
+    ensures runs { Runs (choices codes.now) job (state (B.bar bars.old) best.now log.old store.now)
+        (state (B.bar bars.new) best.now log.new store.now) }
+    ensures shown { IfOk result (λ o. MatchOption o (HasLowFit (choices codes.now) part.now (B.bar bars.new / 2 ^ 32))
+        (λ shown. (shown.number + 1 ≡ length log.new)
+        × IsShown (choices codes.now) (state (B.bar bars.old) best.now log.old store.now)
+        (state (B.bar bars.new) best.now log.new store.now) shown.tie shown.number part.now)) }
+{
+    let bar = bars.see();
+    hints.note_wanted(wanted(codes, bar, best, part));
+    let Some(beaten) = beaten_side(alloc, codes, tables, bar, best, hints, part)? else {
+        return Ok(None);
+    };
+    let tie = beaten.tie;
+    let number = write_fit(alloc, log, &beaten.side)?;
+    Ok(Some(Shown { number, tie }))
+}
