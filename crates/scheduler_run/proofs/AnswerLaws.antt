@@ -11,7 +11,7 @@ use Rattle.refutation_log.specs.declared.fault.LogFault.{LogFault}
 use Rattle.refutation_log.specs.declared.record.Record.{Record}
 use Rattle.log_checker.specs.declared.verdict.Verdict.{Verdict}
 use Rattle.log_checker.specs.declared.verdict.Verdict.TheVariants.{Accepted, Refused}
-use Rattle.scheduler_run.specs.Words.{Asked, AsksPlan, AsksCheck, asked}
+use Rattle.scheduler_run.specs.Words.{Asked, AsksPlan, AsksCheck, AsksGen, asked}
 use Rattle.scheduler_run.specs.PlanAnswers.{AnswersYard, status_of}
 use Rattle.scheduler_run.specs.CheckAnswers.{ChecksYard, ChecksPlan, ChecksLog, SaysVerdict}
 use Rattle.scheduler_run.specs.Answers.{AnswersAsked, Answers}
@@ -50,6 +50,8 @@ asked_status (Some (AsksPlan yard)) file status text answer =
     (λ two. absurd (yard_status (yard_of answer.bytes) status text answer.answer two), λ none. cc)
 asked_status (Some (AsksCheck yard plan log)) file status text answer =
     (λ two. absurd (checked_status (yard_of answer.yard_bytes) answer.plan_bytes answer.log_bytes status text answer.answer two), λ none. cc)
+asked_status (Some (AsksGen seed blocks)) file status text answer =
+    (λ two. let wrong : 0 ≡ 2 = sym answer.0 ∙ two in cc, λ none. cc)
 
 -- status 2 goes with words that are no command, and with them alone
 pub usage_status : (words : List (List ℕ)) (file : Files) (status : ℕ) (text : List ℕ) → Answers words file status text

@@ -1,17 +1,19 @@
 -- What a run says, with which status, and when it is cut short.
 use Rattle.std.specs.Prelude.{◌≡◌, ◌≢◌, ℕ, List, ◌⊎◌, Option, Some, None}
 use Rattle.yard_io.specs.Desk.{Files, then_said, SaidFront}
-use Rattle.scheduler_run.specs.Words.{Asked, AsksPlan, AsksCheck, asked}
+use Rattle.scheduler_run.specs.Words.{Asked, AsksPlan, AsksCheck, AsksGen, asked}
 use Rattle.scheduler_run.specs.Refusals.{IsUsage}
 use Rattle.scheduler_run.specs.PlanAnswers.{AnswersFile}
 use Rattle.scheduler_run.specs.CheckAnswers.{ChecksFiles, HaveBest}
+use Rattle.scheduler_run.specs.GenAnswers.{SaysYard}
 
--- the answer to what is asked for: a command is answered by its files, and other words by the usage line
+-- the answer to what is asked for: a command is answered by its files and numbers, and other words by the usage line
 abbrev pub AnswersAsked : Option Asked → Files → ℕ → List ℕ → Type 0
 AnswersAsked None file status text = IsUsage status text
 AnswersAsked (Some (AsksPlan yard)) file status text = AnswersFile (file yard) status text
 AnswersAsked (Some (AsksCheck yard plan log)) file status text =
     ChecksFiles (file yard) (file plan) (file log) status text
+AnswersAsked (Some (AsksGen seed blocks)) file status text = SaysYard seed blocks status text
 
 -- the answer to the words
 abbrev pub Answers : List (List ℕ) → Files → ℕ → List ℕ → Type 0

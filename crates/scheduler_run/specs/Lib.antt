@@ -1,6 +1,7 @@
 pub mod Accepted
 pub mod Answers
 pub mod CheckAnswers
+pub mod GenAnswers
 pub mod PlanAnswers
 pub mod Refusals
 pub mod Words

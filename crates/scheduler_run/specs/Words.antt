@@ -1,22 +1,40 @@
 -- What the words of a run ask for.
-use Rattle.std.specs.Prelude.{ℕ, List, [], ◌∷◌, Option, Some, None, if◌then◌else◌, codes}
+use Rattle.std.specs.Prelude.{ℕ, ◌<◌, ◌≤◌, ◌^◌, nat_le, List, [], ◌∷◌, Option, Some, None, if◌then◌else◌, codes}
 use Rattle.std.specs.Str.{bytes_eq}
+use Rattle.text_parts.specs.Parts.{◌>>=◌, number_of}
 use Rattle.scheduler_run.specs.declared.command.Command.{Command}
-use Rattle.scheduler_run.specs.declared.command.Command.TheVariants.{Plan, Check}
+use Rattle.scheduler_run.specs.declared.command.Command.TheVariants.{Plan, Check, Gen}
 
--- a command and the names of its files
+-- a command, with the names of its files and its numbers
 pub data Asked : Type 0 where
   AsksPlan : (yard : List ℕ) → Asked
   AsksCheck : (yard plan log : List ℕ) → Asked
+  AsksGen : (seed blocks : ℕ) → Asked
 
--- what the words ask for: `plan YARD` or `check YARD PLAN LOG`; none where they are others
+-- the number that a word is in decimal digits, without a sign or a leading zero, where it is within the limits
+abbrev pub number_in : ℕ → ℕ → List ℕ → Option ℕ
+number_in least most word = number_of most word >>= λ n. if nat_le least n then Some n else None
+
+-- `gen SEED BLOCKS`: the seed is below 2^31, and there are 1 to 32 blocks
+abbrev pub gen_asked : List ℕ → List ℕ → Option Asked
+gen_asked seed blocks = number_in 0 2147483647 seed >>= λ s. number_in 1 32 blocks >>= λ b. Some (AsksGen s b)
+
+-- what the words ask for: `plan YARD`, `check YARD PLAN LOG` or `gen SEED BLOCKS`; none where they are others
 abbrev pub asked : List (List ℕ) → Option Asked
 asked (command ∷ yard ∷ []) = if bytes_eq command (codes "plan") then Some (AsksPlan yard) else None
 asked (command ∷ yard ∷ plan ∷ log ∷ []) =
     if bytes_eq command (codes "check") then Some (AsksCheck yard plan log) else None
+asked (command ∷ seed ∷ blocks ∷ []) = if bytes_eq command (codes "gen") then gen_asked seed blocks else None
 asked words = None
 
 -- what a command asks for
 abbrev pub asked_by : Command → Asked
 asked_by (Plan yard) = AsksPlan yard.now
 asked_by (Check yard plan log) = AsksCheck yard.now plan.now log.now
+asked_by (Gen seed blocks) = AsksGen seed blocks
+
+-- the numbers of a command are within their limits
+abbrev pub IsInRange : Command → Type 0
+IsInRange (Plan yard) = Unit {0}
+IsInRange (Check yard plan log) = Unit {0}
+IsInRange (Gen seed blocks) = (seed < 2 ^ 31) × (1 ≤ blocks) × (blocks ≤ 32)

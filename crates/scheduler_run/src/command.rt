@@ -1,6 +1,11 @@
 //! The commands, as the words give them.
-ghost use Rattle.std.specs.Prelude.{◌≡◌, option_map, map};
-ghost use Rattle.scheduler_run.specs.Words.{asked, asked_by};
+ghost use Rattle.std.specs.Prelude.{◌≡◌, ◌<◌, ◌≤◌, ◌^◌, IfSome, option_map, map};
+ghost use Rattle.scheduler_run.specs.Words.{asked, asked_by, number_in, gen_asked, IsInRange};
+
+use text_parts::number_of;
+
+/// The greatest seed.
+const LAST_SEED: u64 = 2_147_483_647;
 
 /// What the words ask for.
 #[derive(Clone, Copy)]
@@ -15,17 +20,46 @@ pub(crate) enum Command<'a> {
         plan: &'a str,
         log: &'a str,
     },
+    /// The yard that is drawn from a seed, with so many blocks.
+    Gen {
+        seed: u32,
+        blocks: u8,
+    },
+}
+
+/// The number that the word is in decimal digits, without a sign or a leading zero; None where it is none, or is not
+/// within the limits.
+fn number_within(least: u64, most: u64, word: &str) -> Option<u64>
+    requires { most < 10 ^ 18 }
+    ensures value { result ≡ number_in least most word.now }
+    ensures least { IfSome result (λ n. least ≤ n) }
+    ensures most { IfSome result (λ n. n ≤ most) }
+{
+    let number = number_of(most, word.as_bytes())?;
+    if least <= number { Some(number) } else { None }
+}
+
+/// The command of a seed and a number of blocks.
+fn gen_of<'a>(seed: &str, blocks: &str) -> Option<Command<'a>>
+    ensures asked { option_map asked_by result ≡ gen_asked seed.now blocks.now }
+    ensures range { IfSome result IsInRange }
+{
+    let seed = number_within(0, LAST_SEED, seed)? as u32;
+    let blocks = number_within(1, 32, blocks)? as u8;
+    Some(Command::Gen { seed, blocks })
 }
 
 /// What the words ask for; None where they are no command.
 pub(crate) fn command_of<'a>(words: &[&'a str]) -> Option<Command<'a>>
-    ensures { option_map asked_by result ≡ asked (map (λ w. w.now) words.now) }
+    ensures asked { option_map asked_by result ≡ asked (map (λ w. w.now) words.now) }
+    ensures range { IfSome result IsInRange }
 {
     match words {
         [command, yard] if *command == "plan" => Some(Command::Plan { yard }),
         [command, yard, plan, log] if *command == "check" => {
             Some(Command::Check { yard, plan, log })
         }
+        [command, seed, blocks] if *command == "gen" => gen_of(seed, blocks),
         _ => None,
     }
 }

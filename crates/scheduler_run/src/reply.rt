@@ -16,7 +16,10 @@ pub(crate) struct Reply {
 pub(crate) fn usage(alloc: Global) -> Result<Reply, NoMemory>
     ensures { IfOk result (λ reply. IsUsage reply.status reply.text.items) }
 {
-    let text = Vec::from_slice(alloc, b"usage: plan YARD | check YARD PLAN LOG\n")?;
+    let text = Vec::from_slice(
+        alloc,
+        b"usage: plan YARD | check YARD PLAN LOG | gen SEED BLOCKS\n",
+    )?;
     Ok(Reply { status: 2, text })
 }
 

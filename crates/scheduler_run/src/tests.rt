@@ -22,16 +22,22 @@ use yard_file::read_yard;
 use yard_io::{OpenGate, QuietDesk, RealDesk};
 use yards::*;
 
-const USAGE: &str = "usage: plan YARD | check YARD PLAN LOG\n";
+const USAGE: &str = "usage: plan YARD | check YARD PLAN LOG | gen SEED BLOCKS\n";
 
 #[test]
 fn words_and_bytes(rt: HostRuntime) -> Result<(), Fail> {
-    let cases: [(&[&str], &[u8], u8, &str); 8] = [
+    let cases: [(&[&str], &[u8], u8, &str); 14] = [
         (&[], b"", 2, USAGE),
         (&["plan"], b"", 2, USAGE),
         (&["check", "y", "p"], b"", 2, USAGE),
         (&["check", "y", "p", "l", "m"], b"", 2, USAGE),
         (&["checks", "y", "p", "l"], b"", 2, USAGE),
+        (&["gen", "1"], b"", 2, USAGE),
+        (&["gen", "1", "0"], b"", 2, USAGE),
+        (&["gen", "1", "33"], b"", 2, USAGE),
+        (&["gen", "2147483648", "1"], b"", 2, USAGE),
+        (&["gen", "01", "1"], b"", 2, USAGE),
+        (&["gen", "+1", "1"], b"", 2, USAGE),
         (
             &["plan", "y"],
             b"version = 1\ndays = ",

@@ -8,6 +8,7 @@ ghost use Rattle.scheduler_run.specs.Answers.{Answers, Shows, IsAnswered, IsCutS
 use crate::Status;
 use crate::check_command::reply_to_check;
 use crate::command::{Command, command_of};
+use crate::gen_command::reply_to_gen;
 use crate::plan_command::reply_to_plan;
 use crate::reply::{Reply, usage};
 use std::alloc::Global;
@@ -29,6 +30,7 @@ fn reply_to<D: Desk>(alloc: Global, words: &[&str], desk: &mut D) -> Result<Repl
     match command_of(words) {
         Some(Command::Plan { yard }) => reply_to_plan(alloc, yard, desk),
         Some(Command::Check { yard, plan, log }) => reply_to_check(alloc, yard, plan, log, desk),
+        Some(Command::Gen { seed, blocks }) => Ok(reply_to_gen(alloc, seed, blocks)?),
         None => Ok(usage(alloc)?),
     }
 }
