@@ -11,6 +11,7 @@ use Rattle.yard_file.specs.declared.fault.YardFault.TheVariants as faults
 use Rattle.scheduler_run.specs.declared.yard_text.YardText.{YardText}
 use Rattle.scheduler_run.specs.declared.yard_text.YardText.TheVariants.{TooLong}
 use Rattle.scheduler_run.specs.YardTexts.{yard_in, IsTextOf}
+use Rattle.scheduler_run.specs.Outcomes.{Outcome}
 use Rattle.scheduler_run.specs.PlanAnswers.{AnswersYard, AnswersFile}
 use Rattle.scheduler_run.specs.CheckAnswers.{ChecksYard, ChecksFiles, IsBestText, HaveBest}
 
@@ -34,12 +35,12 @@ text-too_long (Some bytes) total count long = record {
 }
 
 -- what a file's text is answered, the file is answered
-pub answers_file : (file : Option (List ℕ)) (text : YardText) (status : ℕ) (said : List ℕ) → IsTextOf file text
-    → AnswersYard (yard_in text) status said → AnswersFile file status said
-answers_file file text status said is answer = record {
+pub answers_file : (file : Option (List ℕ)) (text : YardText) (log : List ℕ) (outcome : Outcome) → IsTextOf file text
+    → AnswersYard (yard_in text) log outcome → AnswersFile file log outcome
+answers_file file text log outcome is answer = record {
   bytes = is.bytes;
   told = is.told;
-  answer = subst (λ r. AnswersYard r status said) is.same answer;
+  answer = subst (λ r. AnswersYard r log outcome) is.same answer;
 }
 
 -- what holds of a file's bytes after a call that keeps the files holds of them before it
@@ -47,17 +48,17 @@ pub told_before : (P : List ℕ → Type 0) (old new : Files) (name : List ℕ) 
 told_before P old new name same told = subst (λ file. IfSome file P) (same name) told
 
 -- what the texts of a yard, a plan and a log are answered, their files are answered
-pub checks_files : (yard plan log : Option (List ℕ)) (text : YardText) (plan_bytes log_bytes : List ℕ) (status : ℕ) (said : List ℕ)
+pub checks_files : (yard plan log : Option (List ℕ)) (text : YardText) (plan_bytes log_bytes : List ℕ) (outcome : Outcome)
     → IsTextOf yard text → IfSome plan (λ its. plan_bytes ≡ its) → IfSome log (λ its. log_bytes ≡ its)
-    → ChecksYard (yard_in text) plan_bytes log_bytes status said → ChecksFiles yard plan log status said
-checks_files yard plan log text plan_bytes log_bytes status said is plan_told log_told answer = record {
+    → ChecksYard (yard_in text) plan_bytes log_bytes outcome → ChecksFiles yard plan log outcome
+checks_files yard plan log text plan_bytes log_bytes outcome is plan_told log_told answer = record {
   yard_bytes = is.bytes;
   yard_told = is.told;
   plan_bytes = plan_bytes;
   plan_told = plan_told;
   log_bytes = log_bytes;
   log_told = log_told;
-  answer = subst (λ r. ChecksYard r plan_bytes log_bytes status said) is.same answer;
+  answer = subst (λ r. ChecksYard r plan_bytes log_bytes outcome) is.same answer;
 }
 
 -- where the texts of a yard and a plan show the best plan, their files do

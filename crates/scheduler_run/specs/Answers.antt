@@ -1,23 +1,32 @@
--- What a run says, with which status, and when it is cut short.
-use Rattle.std.specs.Prelude.{◌≡◌, ◌≢◌, ℕ, List, ◌⊎◌, Option, Some, None}
-use Rattle.yard_io.specs.Desk.{Files, then_said, SaidFront}
+-- What a run makes and says, with which status, and when it is cut short.
+use Rattle.std.specs.Prelude.{◌≡◌, ◌≢◌, ℕ, Bool, List, ◌⊎◌, Option, Some, None}
+use Rattle.yard_io.specs.Desk.{Files, Same, SameFiles}
 use Rattle.scheduler_run.specs.Words.{Asked, AsksPlan, AsksCheck, AsksGen, asked}
+use Rattle.scheduler_run.specs.Outcomes.{Outcome, Wrote, WroteFront}
 use Rattle.scheduler_run.specs.Refusals.{IsUsage}
 use Rattle.scheduler_run.specs.PlanAnswers.{AnswersFile}
 use Rattle.scheduler_run.specs.CheckAnswers.{ChecksFiles, HaveBest}
 use Rattle.scheduler_run.specs.GenAnswers.{SaysYard}
 
 -- the answer to what is asked for: a command is answered by its files and numbers, and other words by the usage line
-abbrev pub AnswersAsked : Option Asked → Files → ℕ → List ℕ → Type 0
-AnswersAsked None file status text = IsUsage status text
-AnswersAsked (Some (AsksPlan yard)) file status text = AnswersFile (file yard) status text
-AnswersAsked (Some (AsksCheck yard plan log)) file status text =
-    ChecksFiles (file yard) (file plan) (file log) status text
-AnswersAsked (Some (AsksGen seed blocks)) file status text = SaysYard seed blocks status text
+abbrev pub AnswersAsked : Option Asked → Files → Outcome → Type 0
+AnswersAsked None file outcome = IsUsage outcome
+AnswersAsked (Some (AsksPlan yard log workers split)) file outcome = AnswersFile (file yard) log outcome
+AnswersAsked (Some (AsksCheck yard plan log)) file outcome = ChecksFiles (file yard) (file plan) (file log) outcome
+AnswersAsked (Some (AsksGen seed blocks)) file outcome = SaysYard seed blocks outcome
 
 -- the answer to the words
-abbrev pub Answers : List (List ℕ) → Files → ℕ → List ℕ → Type 0
-Answers words file status text = AnswersAsked (asked words) file status text
+abbrev pub Answers : List (List ℕ) → Files → Outcome → Type 0
+Answers words file outcome = AnswersAsked (asked words) file outcome
+
+-- the file that a command makes
+abbrev pub made_by : Option Asked → Option (List ℕ)
+made_by (Some (AsksPlan yard log workers split)) = Some log
+made_by _ = None
+
+-- each file but the one that the words make is as it was
+abbrev pub KeepsOthers : List (List ℕ) → Files → Files → Type 0
+KeepsOthers words old new = (name : List ℕ) → made_by (asked words) ≢ Some name → new name ≡ old name
 
 -- what status 0 alone shows of the files of what is asked for: after `check YARD PLAN LOG` that PLAN has the best plan of YARD
 abbrev pub ShowsAsked : Option Asked → Files → Type 0
@@ -38,19 +47,24 @@ pub record IsAnswered (status : ℕ) : Type 0 where
 abbrev pub IsCutShort : ℕ → Type 0
 IsCutShort status = (status ≡ 5) ⊎ (status ≡ 6)
 
--- an answer with this status was said whole
-pub record SaysAnswer (words : List (List ℕ)) (file : Files) (status : ℕ) (old new : Option (List ℕ)) : Type 0 where
-  pub text : List ℕ
-  pub answer : Answers words file status text
-  pub said : new ≡ then_said old text
+-- an answer with this status was written whole: its file was made, and then all was said
+pub record GivesAnswer
+    (words : List (List ℕ)) (tells : Bool) (status : ℕ)
+    (old_file new_file : Files) (old_said new_said : Option (List ℕ)) : Type 0 where
+  pub outcome : Outcome
+  pub answer : Answers words old_file outcome
+  pub status_is : status ≡ outcome.status
+  pub wrote : Wrote tells outcome old_file new_file old_said new_said
 
--- a front of an answer was said
-pub record IsFront (words : List (List ℕ)) (file : Files) (old new : Option (List ℕ)) : Type 0 where
-  pub status : ℕ
-  pub text : List ℕ
-  pub answer : Answers words file status text
-  pub said : SaidFront old new text
+-- a front of an answer was written, in the order of its file and what it says
+pub record IsFront
+    (words : List (List ℕ)) (tells : Bool)
+    (old_file new_file : Files) (old_said new_said : Option (List ℕ)) : Type 0 where
+  pub outcome : Outcome
+  pub answer : Answers words old_file outcome
+  pub wrote : WroteFront tells outcome old_file new_file old_said new_said
 
--- nothing was said, or a front of an answer
-abbrev pub SaysFront : List (List ℕ) → Files → Option (List ℕ) → Option (List ℕ) → Type 0
-SaysFront words file old new = (new ≡ old) ⊎ IsFront words file old new
+-- nothing was written, or a front of an answer
+abbrev pub GivesFront : List (List ℕ) → Bool → Files → Files → Option (List ℕ) → Option (List ℕ) → Type 0
+GivesFront words tells old_file new_file old_said new_said =
+    Same old_file old_said new_file new_said ⊎ IsFront words tells old_file new_file old_said new_said

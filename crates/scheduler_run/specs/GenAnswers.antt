@@ -1,7 +1,9 @@
 -- What `gen` says.
-use Rattle.std.specs.Prelude.{◌≡◌, ℕ, List}
+use Rattle.std.specs.Prelude.{◌≡◌, ℕ, None}
 use Rattle.yard_generator.specs.Texts.{yard_text}
+use Rattle.scheduler_run.specs.Outcomes.{Outcome}
 
 -- the yard that is drawn from the seed, with so many blocks, is said with status 0
-abbrev pub SaysYard : ℕ → ℕ → ℕ → List ℕ → Type 0
-SaysYard seed blocks status text = (status ≡ 0) × (text ≡ yard_text seed blocks)
+abbrev pub SaysYard : ℕ → ℕ → Outcome → Type 0
+SaysYard seed blocks outcome =
+    (outcome.status ≡ 0) × (outcome.made ≡ None) × (outcome.said ≡ yard_text seed blocks)

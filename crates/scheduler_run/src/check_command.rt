@@ -5,6 +5,7 @@ ghost use Rattle.plan_rule.specs.Plans.{IsBest, IsPlan};
 ghost use Rattle.plan_rule.specs.Yards.{choices};
 ghost use Rattle.plan_text.specs.Reading.{plan_of};
 ghost use Rattle.refutation_log.specs.Reading.{log_of};
+ghost use Rattle.scheduler_run.specs.Outcomes.{outcome_of};
 ghost use Rattle.scheduler_run.specs.YardTexts.{yard_in, IsTextOf};
 ghost use Rattle.scheduler_run.specs.CheckAnswers.{ChecksFiles, ChecksYard, ChecksPlan, ChecksLog, Judges, IsBestText, HaveBest};
 ghost use Rattle.scheduler_run.specs.Accepted.{CanBePlanned};
@@ -30,35 +31,42 @@ struct Texts {
 }
 
 /// The reply to a plan, or to none, and a log: the checker's verdict.
-fn judge(alloc: Global, codes: &Codes, plan: Option<&Plan>, log: &Log) -> Result<Reply, NoMemory>
+fn judge<'a>(
+    alloc: Global,
+    codes: &Codes,
+    plan: Option<&Plan>,
+    log: &Log,
+) -> Result<Reply<'a>, NoMemory>
     requires { IfSome plan (λ p. IsPlan (choices codes.now) p.now) }
     ensures answer { IfOk result (λ reply.
-        Judges codes.now (option_map (λ p. p.now) plan.entry) log.now reply.status reply.text.items) }
+        Judges codes.now (option_map (λ p. p.now) plan.entry) log.now (outcome_of reply)) }
     ensures best { IfOk result (λ reply.
         reply.status ≡ 0 → IsBest (choices codes.now) (option_map (λ p. p.now) plan.entry)) }
 {
     match check(alloc, codes, plan, log)? {
         Verdict::Accepted => Ok(Reply {
             status: 0,
-            text: Vec::from_slice(alloc, b"certified\n")?,
+            made: None,
+            said: Vec::from_slice(alloc, b"certified\n")?,
         }),
         Verdict::Refused(refused) => Ok(Reply {
             status: 7,
-            text: refused.line(alloc)?,
+            made: None,
+            said: refused.line(alloc)?,
         }),
     }
 }
 
 /// The reply to a plan, or to none, and a log's bytes.
-fn judge_log(
+fn judge_log<'a>(
     alloc: Global,
     codes: &Codes,
     plan: Option<&Plan>,
     log: &[u8],
-) -> Result<Reply, NoMemory>
+) -> Result<Reply<'a>, NoMemory>
     requires { IfSome plan (λ p. IsPlan (choices codes.now) p.now) }
     ensures answer { IfOk result (λ reply.
-        ChecksLog codes.now (option_map (λ p. p.now) plan.entry) (log_of log.now) reply.status reply.text.items) }
+        ChecksLog codes.now (option_map (λ p. p.now) plan.entry) (log_of log.now) (outcome_of reply)) }
     ensures best { IfOk result (λ reply.
         reply.status ≡ 0 → IsBest (choices codes.now) (option_map (λ p. p.now) plan.entry)) }
 {
@@ -70,9 +78,14 @@ fn judge_log(
 }
 
 /// The reply to the bytes of a plan and of a log.
-fn judge_plan(alloc: Global, codes: &Codes, plan: &[u8], log: &[u8]) -> Result<Reply, NoMemory>
+fn judge_plan<'a>(
+    alloc: Global,
+    codes: &Codes,
+    plan: &[u8],
+    log: &[u8],
+) -> Result<Reply<'a>, NoMemory>
     ensures answer { IfOk result (λ reply.
-        ChecksPlan codes.now (plan_of codes.now plan.now) log.now reply.status reply.text.items) }
+        ChecksPlan codes.now (plan_of codes.now plan.now) log.now (outcome_of reply)) }
     ensures best { IfOk result (λ reply. reply.status ≡ 0 → IsBestText (Ok codes.now) plan.now) }
 {
     match read_plan(alloc, codes, plan) {
@@ -83,10 +96,15 @@ fn judge_plan(alloc: Global, codes: &Codes, plan: &[u8], log: &[u8]) -> Result<R
 }
 
 /// The reply to a yard and the bytes of a plan and of a log.
-fn judge_yard(alloc: Global, yard: &Yard, plan: &[u8], log: &[u8]) -> Result<Reply, NoMemory>
+fn judge_yard<'a>(
+    alloc: Global,
+    yard: &Yard,
+    plan: &[u8],
+    log: &[u8],
+) -> Result<Reply<'a>, NoMemory>
     requires { CanBePlanned yard.now }
     ensures answer { IfOk result (λ reply.
-        ChecksPlan yard.now (plan_of yard.now plan.now) log.now reply.status reply.text.items) }
+        ChecksPlan yard.now (plan_of yard.now plan.now) log.now (outcome_of reply)) }
     ensures best { IfOk result (λ reply. reply.status ≡ 0 → IsBestText (Ok yard.now) plan.now) }
 {
     let codes = Codes::new(alloc, yard)?;
@@ -94,9 +112,9 @@ fn judge_yard(alloc: Global, yard: &Yard, plan: &[u8], log: &[u8]) -> Result<Rep
 }
 
 /// The reply to the texts: the first refusal of the yard's, the plan's and the log's, or else the verdict.
-fn judge_texts(alloc: Global, texts: &Texts) -> Result<Reply, NoMemory>
+fn judge_texts<'a>(alloc: Global, texts: &Texts) -> Result<Reply<'a>, NoMemory>
     ensures answer { IfOk result (λ reply.
-        ChecksYard (yard_in texts.now.yard) texts.now.plan.items texts.now.log.items reply.status reply.text.items) }
+        ChecksYard (yard_in texts.now.yard) texts.now.plan.items texts.now.log.items (outcome_of reply)) }
     ensures best { IfOk result (λ reply.
         reply.status ≡ 0 → IsBestText (yard_in texts.now.yard) texts.now.plan.items) }
 {
@@ -119,6 +137,7 @@ fn read_texts<D: Desk>(
     ensures plan { IfOk result (λ texts. IfSome (D.file desk.old plan.now) (λ its. texts.plan.items ≡ its)) }
     ensures log { IfOk result (λ texts. IfSome (D.file desk.old log.now) (λ its. texts.log.items ≡ its)) }
     ensures same { Same (D.file desk.old) (D.said desk.old) (D.file desk.new) (D.said desk.new) }
+    ensures tells { D.tells desk.new ≡ D.tells desk.old }
     ensures cause { HasCause (D.read_faults desk.old) (D.read_faults desk.new) result }
     ensures writes { D.write_faults desk.old ≤ D.write_faults desk.new }
 {
@@ -130,19 +149,20 @@ fn read_texts<D: Desk>(
 
 /// The reply to the files of these names. All three are read before any of them is refused; a yard that is too long is
 /// refused unread.
-pub(crate) fn reply_to_check<D: Desk>(
+pub(crate) fn reply_to_check<'a, D: Desk>(
     alloc: Global,
     yard: &str,
     plan: &str,
     log: &str,
     desk: &mut D,
-) -> Result<Reply, Trouble>
+) -> Result<Reply<'a>, Trouble>
     ensures answer { IfOk result (λ reply.
         ChecksFiles (D.file desk.old yard.now) (D.file desk.old plan.now) (D.file desk.old log.now)
-        reply.status reply.text.items) }
+        (outcome_of reply)) }
     ensures best { IfOk result (λ reply.
         reply.status ≡ 0 → HaveBest (D.file desk.old yard.now) (D.file desk.old plan.now)) }
     ensures same { Same (D.file desk.old) (D.said desk.old) (D.file desk.new) (D.said desk.new) }
+    ensures tells { D.tells desk.new ≡ D.tells desk.old }
     ensures cause { HasCause (D.read_faults desk.old) (D.read_faults desk.new) result }
     ensures writes { D.write_faults desk.old ≤ D.write_faults desk.new }
 {

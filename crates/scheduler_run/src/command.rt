@@ -1,6 +1,6 @@
 //! The commands, as the words give them.
 ghost use Rattle.std.specs.Prelude.{◌≡◌, ◌<◌, ◌≤◌, ◌^◌, IfSome, option_map, map};
-ghost use Rattle.scheduler_run.specs.Words.{asked, asked_by, number_in, gen_asked, IsInRange};
+ghost use Rattle.scheduler_run.specs.Words.{asked, asked_by, number_in, plan_asked, gen_asked, IsInRange};
 
 use text_parts::number_of;
 
@@ -10,9 +10,12 @@ const LAST_SEED: u64 = 2_147_483_647;
 /// What the words ask for.
 #[derive(Clone, Copy)]
 pub(crate) enum Command<'a> {
-    /// The best plan of a yard.
+    /// The best plan of a yard, and a log of it.
     Plan {
         yard: &'a str,
+        log: &'a str,
+        workers: u32,
+        split: u8,
     },
     /// Whether the log shows that the plan is the best of the yard.
     Check {
@@ -39,6 +42,24 @@ fn number_within(least: u64, most: u64, word: &str) -> Option<u64>
     if least <= number { Some(number) } else { None }
 }
 
+/// The command of two files, a number of workers and a split. A log may not stand in the yard's own file.
+fn plan_of<'a>(yard: &'a str, log: &'a str, workers: &str, split: &str) -> Option<Command<'a>>
+    ensures asked { option_map asked_by result ≡ plan_asked yard.now log.now workers.now split.now }
+    ensures range { IfSome result IsInRange }
+{
+    if yard == log {
+        return None;
+    }
+    let workers = number_within(1, 16, workers)? as u32;
+    let split = number_within(0, 20, split)? as u8;
+    Some(Command::Plan {
+        yard,
+        log,
+        workers,
+        split,
+    })
+}
+
 /// The command of a seed and a number of blocks.
 fn gen_of<'a>(seed: &str, blocks: &str) -> Option<Command<'a>>
     ensures asked { option_map asked_by result ≡ gen_asked seed.now blocks.now }
@@ -55,7 +76,9 @@ pub(crate) fn command_of<'a>(words: &[&'a str]) -> Option<Command<'a>>
     ensures range { IfSome result IsInRange }
 {
     match words {
-        [command, yard] if *command == "plan" => Some(Command::Plan { yard }),
+        [command, yard, log, workers, split] if *command == "plan" => {
+            plan_of(yard, log, workers, split)
+        }
         [command, yard, plan, log] if *command == "check" => {
             Some(Command::Check { yard, plan, log })
         }

@@ -22,36 +22,37 @@ use yard_file::read_yard;
 use yard_io::{OpenGate, QuietDesk, RealDesk};
 use yards::*;
 
-const USAGE: &str = "usage: plan YARD | check YARD PLAN LOG | gen SEED BLOCKS\n";
+const USAGE: &str = "usage: plan YARD LOG WORKERS SPLIT | check YARD PLAN LOG | gen SEED BLOCKS\n";
+
+const NOT_TOML: &str = "refused yard 2 NotToml\n";
+
+/// The words of a plan by one worker.
+const PLAN: &[&str] = &["plan", "y", "l", "1", "0"];
 
 #[test]
 fn words_and_bytes(rt: HostRuntime) -> Result<(), Fail> {
-    let cases: [(&[&str], &[u8], u8, &str); 14] = [
+    let cases: [(&[&str], &[u8], u8, &str); 20] = [
         (&[], b"", 2, USAGE),
         (&["plan"], b"", 2, USAGE),
+        (&["plan", "y"], b"", 2, USAGE),
+        (&["plan", "y", "l", "0", "3"], b"", 2, USAGE),
+        (&["plan", "y", "l", "01", "3"], b"", 2, USAGE),
+        (&["plan", "y", "l", "17", "3"], b"", 2, USAGE),
+        (&["plan", "y", "l", "1", "21"], b"", 2, USAGE),
+        (&["plan", "y", "l", "1", ""], b"", 2, USAGE),
+        (&["plan", "y", "y", "1", "0"], b"", 2, USAGE),
         (&["check", "y", "p"], b"", 2, USAGE),
         (&["check", "y", "p", "l", "m"], b"", 2, USAGE),
-        (&["checks", "y", "p", "l"], b"", 2, USAGE),
         (&["gen", "1"], b"", 2, USAGE),
         (&["gen", "1", "0"], b"", 2, USAGE),
         (&["gen", "1", "33"], b"", 2, USAGE),
         (&["gen", "2147483648", "1"], b"", 2, USAGE),
         (&["gen", "01", "1"], b"", 2, USAGE),
         (&["gen", "+1", "1"], b"", 2, USAGE),
+        (PLAN, b"version = 1\ndays = ", 1, NOT_TOML),
+        (PLAN, b"version = \xff\n", 1, NOT_TOML),
         (
-            &["plan", "y"],
-            b"version = 1\ndays = ",
-            1,
-            "refused yard 2 NotToml\n",
-        ),
-        (
-            &["plan", "y"],
-            b"version = \xff\n",
-            1,
-            "refused yard 2 NotToml\n",
-        ),
-        (
-            &["plan", "y"],
+            PLAN,
             b"version = 1\ndays = 10\n",
             1,
             "refused yard 8 NoPlate\n",
@@ -66,11 +67,13 @@ fn words_and_bytes(rt: HostRuntime) -> Result<(), Fail> {
         let ended = run_quietly(&rt, rt.alloc(), words, &mut desk);
         assert_eq!(rt; ended.0, status, "at {said}");
         assert_eq!(rt; desk.said(), said.as_bytes(), "at {said}");
+        assert_eq!(rt; desk.file("l"), None, "at {said}");
     }
     Ok(())
 }
 
-/// The status, and whether the text was said, for the yard that these parts make.
+/// The status, and whether the text was said, for the yard that these parts make; None where there is an answer and `check`
+/// does not certify the text with the log.
 fn says<R: Threads + Sync + AllocGlobal>(rt: &R, parts: &[&str], said: &str) -> Option<(u8, bool)> {
     let mut yard = Vec::new(rt.alloc());
     for part in parts {
@@ -78,8 +81,16 @@ fn says<R: Threads + Sync + AllocGlobal>(rt: &R, parts: &[&str], said: &str) -> 
     }
     let mut desk = QuietDesk::new(rt.alloc(), 64).ok()?;
     desk.put("y", yard.as_slice()).ok()?;
-    let ended = run_quietly(rt, rt.alloc(), &["plan", "y"], &mut desk);
-    Some((ended.0, desk.said() == said.as_bytes()))
+    let ended = run_quietly(rt, rt.alloc(), PLAN, &mut desk);
+    let is_said = desk.said() == said.as_bytes();
+    if ended.0 != 1 {
+        desk.put("p", said.as_bytes()).ok()?;
+        let certified = run_quietly(rt, rt.alloc(), &["check", "y", "p", "l"], &mut desk);
+        if certified.0 != 0 {
+            return None;
+        }
+    }
+    Some((ended.0, is_said))
 }
 
 const ONE_SQUARE: &str = "plan 1
@@ -274,10 +285,43 @@ total 2
     Ok(())
 }
 
+/// Three blocks need 13 cells and days of the 12 of the two days: one energy refutes every plan.
+#[test]
+fn one_energy_refutes_every_plan(rt: HostRuntime) -> Result<(), Fail> {
+    let parts = [
+        TWO_DAYS,
+        PLATE_3X2,
+        A,
+        SQUARE_2,
+        TWO_DAYS_DUE_1,
+        B,
+        COLUMN,
+        TWO_DAYS_DUE_1,
+        C,
+        CELL,
+        ONE_DAY_DUE_1,
+    ];
+    let mut yard = Vec::new(rt.alloc());
+    for part in parts {
+        yard.extend_from_slice(part.as_bytes())?;
+    }
+    let Ok(mut desk) = QuietDesk::new(rt.alloc(), 64) else {
+        assert!(rt; false);
+        return Ok(());
+    };
+    assert!(rt; desk.put("y", yard.as_slice()).is_ok());
+    assert_eq!(rt; run_quietly(&rt, rt.alloc(), PLAN, &mut desk), Status(3));
+    assert_eq!(rt;
+        desk.file("l"),
+        Some(b"log 1\nenergy 0 1 -\nend\n".as_slice())
+    );
+    Ok(())
+}
+
 #[test]
 fn long_file_is_not_read(rt: HostRuntime) -> Result<(), Fail> {
     let mut desk = UnreadDesk::new(rt.alloc(), 1_048_577);
-    let ended = run(&rt, rt.alloc(), &["plan", "y"], &mut desk, &OpenGate);
+    let ended = run(&rt, rt.alloc(), PLAN, &mut desk, &OpenGate);
     assert_eq!(rt; ended, Status(1));
     assert_eq!(rt; desk.said(), b"refused yard 1 TooLong\n".as_slice());
     Ok(())
@@ -286,7 +330,7 @@ fn long_file_is_not_read(rt: HostRuntime) -> Result<(), Fail> {
 #[test]
 fn a_read_fault_says_nothing(rt: HostRuntime) {
     let mut desk = UnreadDesk::new(rt.alloc(), 10);
-    let ended = run(&rt, rt.alloc(), &["plan", "y"], &mut desk, &OpenGate);
+    let ended = run(&rt, rt.alloc(), PLAN, &mut desk, &OpenGate);
     assert_eq!(rt; ended, Status(4));
     assert_eq!(rt; desk.said().len(), 0);
 }
@@ -297,7 +341,7 @@ fn missing_file_is_a_read_fault(rt: HostRuntime) -> Result<(), Fail> {
     let ended = run(
         &rt,
         rt.alloc(),
-        &["plan", "no such file"],
+        &["plan", "no such file", "no such log", "1", "0"],
         &mut desk,
         &OpenGate,
     );

@@ -30,6 +30,7 @@ pub(crate) fn read_yard_text<D: Desk>(
 ) -> Result<YardText, Trouble>
     ensures text { IfOk result (IsTextOf (D.file desk.old name.now)) }
     ensures same { Same (D.file desk.old) (D.said desk.old) (D.file desk.new) (D.said desk.new) }
+    ensures tells { D.tells desk.new ≡ D.tells desk.old }
     ensures cause { HasCause (D.read_faults desk.old) (D.read_faults desk.new) result }
     ensures writes { D.write_faults desk.old ≤ D.write_faults desk.new }
 {

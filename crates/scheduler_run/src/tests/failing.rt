@@ -1,4 +1,4 @@
-//! Runs over a desk of which one call fails, in pieces of four bytes: each length, each read and each say in turn.
+//! Plans over a desk of which one call fails, in pieces of four bytes: each call of each kind in turn.
 
 use super::yards::*;
 use crate::run;
@@ -8,7 +8,7 @@ use std::test::Fail;
 use std::thread::Threads;
 use yard_io::{DeskCall, MemoryDesk, OpenGate};
 
-const WORDS: [&str; 2] = ["plan", "y"];
+const WORDS: [&str; 5] = ["plan", "y", "l", "1", "0"];
 
 const YARD: [&str; 10] = [
     TEN_DAYS,
@@ -56,12 +56,42 @@ fn pieces(bytes: usize) -> u64 {
     bytes.div_ceil(4) as u64
 }
 
+/// The log of a run in which no call fails.
+fn whole_log<R: Threads + Sync + AllocGlobal>(rt: &R, yard: &[u8]) -> Result<Vec<u8>, Fail> {
+    let (ended, desk) = ends(rt, yard, DeskCall::Length, 1)?;
+    assert_eq!(rt; ended, 0);
+    let mut log = Vec::new(rt.alloc());
+    log.extend_from_slice(desk.file("l").unwrap_or(&[]))?;
+    Ok(log)
+}
+
+/// What stands where the call with this number of its kind fails: of the log its first bytes, or no file, and of the plan
+/// its first bytes, but only once the log is whole.
+fn left<R: Threads + Sync + AllocGlobal>(rt: &R, desk: &MemoryDesk, call: DeskCall, nth: u64, log: &[u8]) {
+    let told = desk.file("l");
+    let made = told.unwrap_or(&[]);
+    let (appended, said) = match call {
+        DeskCall::Append => (nth, 0),
+        DeskCall::Say => (pieces(log.len()), nth),
+        _ => (0, 0),
+    };
+    let made_at_all = matches!(call, DeskCall::Append | DeskCall::Say);
+    assert_eq!(rt; told.is_some(), made_at_all, "{call:?} {nth}");
+    assert_eq!(rt; pieces(made.len()), appended, "{call:?} {nth}");
+    assert!(rt; log.starts_with(made), "{call:?} {nth}");
+    assert_eq!(rt; pieces(desk.said().len()), said, "{call:?} {nth}");
+    assert!(rt; PLAN.as_bytes().starts_with(desk.said()), "{call:?} {nth}");
+}
+
 #[test]
 fn each_call_fails_in_turn(rt: HostRuntime) -> Result<(), Fail> {
     let yard = yard(rt.alloc())?;
+    let log = whole_log(&rt, yard.as_slice())?;
     let rows = [
         (DeskCall::Length, 1, 4),
         (DeskCall::Read, pieces(yard.len()), 4),
+        (DeskCall::Fresh, 1, 5),
+        (DeskCall::Append, pieces(log.len()), 5),
         (DeskCall::Say, pieces(PLAN.len()), 5),
     ];
     for (call, calls, status) in rows {
@@ -69,17 +99,12 @@ fn each_call_fails_in_turn(rt: HostRuntime) -> Result<(), Fail> {
             let (ended, desk) = ends(&rt, yard.as_slice(), call, nth)?;
             assert_eq!(rt; ended, status, "{call:?} {nth}");
             assert_eq!(rt; desk.file("y"), Some(yard.as_slice()), "{call:?} {nth}");
-            let said = if call == DeskCall::Say { nth } else { 0 };
-            assert_eq!(rt; pieces(desk.said().len()), said, "{call:?} {nth}");
-            assert!(rt; PLAN.as_bytes().starts_with(desk.said()), "{call:?} {nth}");
+            left(&rt, &desk, call, nth, log.as_slice());
         }
         let (ended, desk) = ends(&rt, yard.as_slice(), call, calls)?;
         assert_eq!(rt; ended, 0, "{call:?} {calls} is not made");
-        assert_eq!(rt;
-            desk.said(),
-            PLAN.as_bytes(),
-            "{call:?} {calls} is not made"
-        );
+        assert_eq!(rt; desk.file("l"), Some(log.as_slice()), "{call:?} {calls} is not made");
+        assert_eq!(rt; desk.said(), PLAN.as_bytes(), "{call:?} {calls} is not made");
     }
     Ok(())
 }

@@ -1,5 +1,6 @@
 //! What a run asks of its desk, and where a desk takes only a part of what is said.
 
+use super::PLAN;
 use super::watched::{Call, WatchedDesk};
 use super::yards::*;
 use crate::run;
@@ -10,9 +11,9 @@ use yard_io::{OpenGate, QuietDesk};
 /// Bytes that no reader of TOML takes: three pieces of eight bytes.
 const CUT_OFF: &str = "version = 1\ndays = ";
 
-/// A desk with this file `y`, the files `p` and `l` of a plan and a log, in pieces of eight bytes, that says so many bytes
-/// and then fails.
-fn watched(alloc: Global, parts: &[&str], left: usize) -> Option<WatchedDesk> {
+/// A desk with this file `y`, the files `p` and `l` of a plan and a log, in pieces of eight bytes. It adds so
+/// many bytes to files, and says so many, and then fails.
+fn watched(alloc: Global, parts: &[&str], room: usize, left: usize) -> Option<WatchedDesk> {
     let mut yard = Vec::new(alloc);
     for part in parts {
         yard.extend_from_slice(part.as_bytes()).ok()?;
@@ -21,24 +22,24 @@ fn watched(alloc: Global, parts: &[&str], left: usize) -> Option<WatchedDesk> {
     quiet.put("y", yard.as_slice()).ok()?;
     quiet.put("p", b"no plan\n").ok()?;
     quiet.put("l", b"log 1\n").ok()?;
-    Some(WatchedDesk::new(alloc, quiet, left))
+    Some(WatchedDesk::new(alloc, quiet, room, left))
 }
 
 #[test]
 fn a_desk_that_takes_no_more_is_a_write_fault(rt: HostRuntime) -> Result<(), Fail> {
     let square: &[&str] = &[TEN_DAYS, PLATE_4X3, A, SQUARE_2, TWO_DAYS_DUE_1];
     let cases: [(&[&str], &[&str], usize, &str); 8] = [
-        (&["plan", "y"], square, 0, ""),
-        (&["plan", "y"], square, 4, "plan"),
-        (&["plan", "y"], &[CUT_OFF], 0, ""),
-        (&["plan", "y"], &[CUT_OFF], 4, "refu"),
+        (PLAN, square, 0, ""),
+        (PLAN, square, 4, "plan"),
+        (PLAN, &[CUT_OFF], 0, ""),
+        (PLAN, &[CUT_OFF], 4, "refu"),
         (&["check", "y", "p", "l"], square, 0, ""),
         (&["check", "y", "p", "l"], square, 13, "refused log 3"),
         (&[], square, 0, ""),
         (&[], square, 4, "usag"),
     ];
     for (words, parts, left, said) in cases {
-        let Some(mut desk) = watched(rt.alloc(), parts, left) else {
+        let Some(mut desk) = watched(rt.alloc(), parts, 1_000, left) else {
             assert!(rt; false, "the desk has its file");
             return Ok(());
         };
@@ -54,7 +55,7 @@ fn a_desk_that_takes_no_more_is_a_write_fault(rt: HostRuntime) -> Result<(), Fai
 fn one_length_then_reads_then_what_is_said(rt: HostRuntime) -> Result<(), Fail> {
     let cases: [(&[&str], u8, &[Call]); 3] = [
         (
-            &["plan", "y"],
+            PLAN,
             1,
             &[
                 Call::Length,
@@ -90,13 +91,30 @@ fn one_length_then_reads_then_what_is_said(rt: HostRuntime) -> Result<(), Fail> 
         ),
     ];
     for (words, status, calls) in cases {
-        let Some(mut desk) = watched(rt.alloc(), &[CUT_OFF], 1_000) else {
+        let Some(mut desk) = watched(rt.alloc(), &[CUT_OFF], 0, 1_000) else {
             assert!(rt; false, "the desk has its file");
             return Ok(());
         };
         let ended = run(&rt, rt.alloc(), words, &mut desk, &OpenGate);
         assert_eq!(rt; ended.0, status);
         assert_eq!(rt; desk.calls(), calls, "with status {status}");
+    }
+    Ok(())
+}
+
+#[test]
+fn a_log_that_is_cut_short_says_nothing(rt: HostRuntime) -> Result<(), Fail> {
+    let square: &[&str] = &[TEN_DAYS, PLATE_4X3, A, SQUARE_2, TWO_DAYS_DUE_1];
+    for (room, log) in [(0, ""), (4, "log "), (6, "log 1\n")] {
+        let Some(mut desk) = watched(rt.alloc(), square, room, 1_000) else {
+            assert!(rt; false, "the desk has its file");
+            return Ok(());
+        };
+        let ended = run(&rt, rt.alloc(), PLAN, &mut desk, &OpenGate);
+        assert_eq!(rt; ended.0, 5, "after {log}");
+        assert_eq!(rt; desk.file("l"), Some(log.as_bytes()), "after {log}");
+        assert_eq!(rt; desk.said().len(), 0, "after {log}");
+        assert_eq!(rt; desk.calls().last(), Some(&Call::Append), "after {log}");
     }
     Ok(())
 }

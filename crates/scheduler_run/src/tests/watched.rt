@@ -1,4 +1,4 @@
-//! A desk in memory that takes so many bytes and then fails, and keeps the list of its calls.
+//! A desk in memory that takes so many bytes for files and so many to say, and then fails, and keeps the list of its calls.
 ghost use Rattle.std.specs.Prelude.{◌≡◌};
 
 use std::alloc::Global;
@@ -14,19 +14,22 @@ pub enum Call {
     Say,
 }
 
-/// Stands on a `QuietDesk`. It says `left` more bytes, and from then on each `say` fails. It tells nothing.
+/// Stands on a `QuietDesk`. It adds `room` more bytes to files and says `left` more, and from then on each `append` and each
+/// `say` fails. It tells nothing.
 #[derive(Drop)]
 pub struct WatchedDesk {
     quiet: QuietDesk,
+    room: usize,
     left: usize,
     calls: Vec<Call>,
     faults: u64,
 }
 
 impl WatchedDesk {
-    pub fn new(alloc: Global, quiet: QuietDesk, left: usize) -> WatchedDesk {
+    pub fn new(alloc: Global, quiet: QuietDesk, room: usize, left: usize) -> WatchedDesk {
         WatchedDesk {
             quiet,
+            room,
             left,
             calls: Vec::new(alloc),
             faults: 0,
@@ -35,6 +38,10 @@ impl WatchedDesk {
 
     pub fn said(&self) -> &[u8] {
         self.quiet.said()
+    }
+
+    pub fn file(&self, name: &str) -> Option<&[u8]> {
+        self.quiet.file(name)
     }
 
     /// The calls that were made, in order.
@@ -73,7 +80,14 @@ impl Desk for WatchedDesk {
 
     fn append(&mut self, name: &str, bytes: &[u8]) -> Result<usize, Trouble> {
         self.calls.push(Call::Append)?;
-        self.quiet.append(name, bytes)
+        let taken = self.room.min(bytes.len());
+        if taken == 0 {
+            self.faults = self.faults.saturating_add(1);
+            return Err(Trouble::Failed);
+        }
+        let added = self.quiet.append(name, &bytes[..taken])?;
+        self.room -= added;
+        Ok(added)
     }
 
     fn say(&mut self, bytes: &[u8]) -> Result<usize, Trouble> {
