@@ -1,25 +1,25 @@
 -- The best of the reports is an answer of each search, and the log of the whole yard ends with the empty box.
 use Rattle.std.proofs.Common.{◌≡◌, ◌≢◌, ℕ, zero, suc, ◌+◌, ◌-◌, ◌^◌, ◌<◌, ◌≤◌, List, [], ◌∷◌, ◌++◌, length, get_or, set, Bool, true, false, Option, Some, None, ◌⊎◌, refl, sym, ap, ◌∙◌, subst, inl, inr, arith, length-append}
-use Rattle.std.specs.Prelude.{slice_get, slice_index, if◌then◌else◌, ◌↔◌, ◌==◌, ◌&&◌, Result, Ok, Err, IfOk}
+use Rattle.std.specs.Prelude.{slice_get, slice_index, ◌↔◌, ◌==◌, ◌&&◌, Ok}
 use Rattle.std.specs.List.{All, Contains}
-use Rattle.std.proofs.lemmas.Bool.{cases_lt, cases_order, eq-eqb, eqb-true}
+use Rattle.std.proofs.lemmas.Bool.{cases_order, eq-eqb, eqb-true}
 use Rattle.std.proofs.lemmas.List.{length-set, get_or-set_same, get_or-set_other}
-use Rattle.std.proofs.lemmas.List.Elements.{All-contains, All-cons, All-nil, All-weaker, All-contains_itself, recursion_from_All}
+use Rattle.std.proofs.lemmas.List.Elements.{All-contains, All-cons, All-nil, All-contains_itself, recursion_from_All}
 use Rattle.std.proofs.lemmas.List.Sorted.{IsPermutation-refl}
-use Rattle.std.proofs.lemmas.Option.{none-some, same_Some, slice_get-get_or, get_or_from_slice_get}
+use Rattle.std.proofs.lemmas.Option.{same_Some, slice_get-get_or, get_or_from_slice_get}
 use Rattle.plan_rule.specs.declared.literal.Literal.{Literal}
 use Rattle.plan_rule.specs.declared.job.Job.{Job}
 use Rattle.plan_rule.specs.declared.region.Region.{Region}
 use Rattle.plan_rule.specs.declared.region.Region.TheVariants.{Empty, Part}
 use Rattle.plan_rule.specs.Choices.{Choices, blocks, count}
 use Rattle.plan_rule.specs.Plans.{code_of, IsPlan, IsAnswer, IsFeasible, IsBefore, IsBest}
-use Rattle.plan_rule.specs.Boxes.{IsBox, IsLiteral, IsWhole, Holds, LeavesFree, Covers, exact, with_literal}
+use Rattle.plan_rule.specs.Boxes.{IsBox, IsLiteral, IsWhole, Covers, exact, with_literal}
 use Rattle.plan_rule.specs.Laws.{AreSmall}
-use Rattle.plan_rule.specs.Paths.{key, path, IsInRegion, IsChain, Tile}
+use Rattle.plan_rule.specs.Paths.{key, IsInRegion, IsChain}
 use Rattle.plan_rule.specs.Regions.{IsRegion, IsRegionPart}
 use Rattle.plan_rule.specs.RegionBoxes.{region_box}
 use Rattle.plan_rule.specs.Reports.{JobReport, AreReports, IsBar, IsReached, IsLeast, IsBestOf}
-use Rattle.plan_rule.proofs.BoxLaws.{HoldsCode, held_covered}
+use Rattle.plan_rule.proofs.BoxLaws.{held_covered}
 use Rattle.plan_rule.proofs.OrderLaws.{before_cases}
 use Rattle.plan_rule.proofs.PathLaws.{key-before, path-below}
 use Rattle.plan_rule.proofs.RegionBoxLaws.{region_box_holds}
@@ -29,9 +29,8 @@ use Rattle.refutation_log.specs.declared.record.Record.{Record}
 use Rattle.refutation_log.specs.declared.record.Record.TheVariants.{Branch}
 use Rattle.refutation_log.specs.Logs.{AreSteps}
 use Rattle.refutation_log.specs.Spelling.{HasText, HaveText}
-use Rattle.refutation_log.specs.Steps.{IsStep, IsStepAt, IsAccepted, result_of}
+use Rattle.refutation_log.specs.Steps.{IsStep, IsAccepted, result_of}
 use Rattle.refutation_log.proofs.AppendedLaws.{pushed_steps}
-use Rattle.branch_kernel.specs.Growth.{Ends}
 use Rattle.branch_kernel.specs.Rivals.{IsRival, IsNotAfter, Settles}
 use Rattle.branch_kernel.specs.States.{State}
 use Rattle.branch_kernel.specs.Written.{IsBranchWritten}
@@ -117,9 +116,9 @@ pub root_solvable : (c : Choices) → IsSolvable c root
 root_solvable c none = elim (zero_or c.counts) [
   | inl some ↦ some
   | inr all ↦ absurd (none (zeros c.counts) (plan_in_root c (zeros c.counts) (record {
-      one_each = zeros_length c.counts;
-      in_range = λ b l. (let e = zeros_at c.counts b in let h = all b l in omega arith);
-    })))
+    one_each = zeros_length c.counts;
+    in_range = λ b l. (let e = zeros_at c.counts b in let h = all b l in omega arith);
+  })))
 ]
 
 -- a box that contains the box of that job's region has literals that take every code of their blocks
@@ -198,7 +197,7 @@ pub closed_off : (c : Choices) (log new : List Record) (b last : ℕ) (e : Recor
 closed_off c log new b last e range side none items number exists one l at whole f g h i written =
     let cites : items ≡ last ∷ [] = i ∙ ap (λ none. none ++ last ∷ []) h in
     let (list, is, grown, same) = subst (λ items. IsBranchWritten (Ok number) log new (exact b 0) [] items) cites
-      (subst (λ side. IsBranchWritten (Ok number) log new (exact b 0) side items) g (subst (λ range. IsBranchWritten (Ok number) log new range side items) f written)) in
+    (subst (λ side. IsBranchWritten (Ok number) log new (exact b 0) side items) g (subst (λ range. IsBranchWritten (Ok number) log new range side items) f written)) in
     record {
       steps = λ t steps. subst (AreSteps c t) (sym grown) (pushed_steps c t log (Branch b 0 1 [] list) steps (close_step c t log b last e list exists one l at whole same));
       last = (
@@ -235,11 +234,10 @@ pub root_solved : (c : Choices) (job : Job) (old new : State) (r : Report) → I
 root_solved c job old new r solved at small none empty same =
     let is : IsSolved c root old new r = subst (λ job. IsSolved c job old new r) at solved in
     let reports = root_reports c old new r none is in
-    let best = best_of_one c (report_of r) r.best refl in
-    (
+    let best = best_of_one c (report_of r) r.best refl in (
       merged c (report_of r ∷ []) r.best (record { total_fits = small.total }) reports best,
       λ i less. steps_of_best c small (report_of r ∷ []) r.best reports best (report_of r) old new (0, omega arith, refl) (sym is.seen) same is.ends i
-        (let n = ap length empty in omega arith) less,
+          (let n = ap length empty in omega arith) less,
     )
 
 best_answers : (c : Choices) (t : Option (List ℕ)) → IsBest c t → IsAnswer c t
@@ -276,7 +274,7 @@ part_result c e b lo hi side cites same other none =
 pub whole_result : (c : Choices) (e : Record) (b lo hi : ℕ) (side : List Literal) (cites : List ℕ) → e ≡ Branch b lo hi side cites → (lo ≡ 0) × (hi ≡ count c b) → result_of c e ≡ side
 whole_result c e b lo hi side cites same (f, g) =
     ap (result_of c) same ∙ if_true ((lo == 0) && (hi == count c b)) side (with_literal side (record { block = b; lo = lo; hi = hi }))
-      (subst (λ lo. ((lo == 0) && (hi == count c b)) ≡ true) (sym f) (eq-eqb hi (count c b) g))
+    (subst (λ lo. ((lo == 0) && (hi == count c b)) ≡ true) (sym f) (eq-eqb hi (count c b) g))
 
 -- where the last record of that job's search refutes another box than the empty one, its box has literals on blocks with one code alone
 pub close_facts : (c : Choices) (log items : List Record) (last : ℕ) (e entry d : Record) (job : Job) (region : Region) → items ≡ log → entry ≡ get_or items last d

@@ -1,20 +1,19 @@
 -- The search of a region in which some block has no code.
-use Rattle.std.proofs.Common.{◌≡◌, ◌≢◌, ℕ, zero, suc, ◌+◌, ◌/◌, ◌^◌, ◌<◌, ◌≤◌, List, [], ◌∷◌, ◌++◌, length, get_or, Option, Some, None, ◌⊎◌, refl, sym, ap, ◌∙◌, subst, inl, inr, arith, Bool, true, false, length-append}
+use Rattle.std.proofs.Common.{◌≡◌, ◌≢◌, ℕ, zero, suc, ◌+◌, ◌<◌, ◌≤◌, List, [], ◌∷◌, length, get_or, Option, Some, None, refl, sym, ap, subst, inr, arith, true, length-append}
 use Rattle.std.specs.Prelude.{Result, Ok, Err, IfOk, OnErr, slice_get, ◌==◌, ◌&&◌}
-use Rattle.std.specs.List.{All, Contains}
-use Rattle.std.proofs.lemmas.Bool.{eq-eqb}
+use Rattle.std.specs.List.{Contains}
 use Rattle.std.proofs.lemmas.Option.{none-some}
 use Rattle.std.proofs.lemmas.List.Elements.{All-nil}
 use Rattle.shape_exact.specs.declared.memory.NoMemory.{NoMemory}
 use Rattle.plan_rule.specs.declared.literal.Literal.{Literal}
 use Rattle.plan_rule.specs.declared.job.Job.{Job}
 use Rattle.plan_rule.specs.Choices.{Choices, blocks, count}
-use Rattle.plan_rule.specs.Boxes.{IsBox, IsLiteral, LeavesFree, with_literal}
+use Rattle.plan_rule.specs.Boxes.{IsBox, IsLiteral, with_literal}
 use Rattle.plan_rule.specs.Paths.{IsInRegion}
 use Rattle.plan_rule.specs.Reports.{IsBar}
 use Rattle.refutation_log.specs.declared.record.Record.{Record}
 use Rattle.refutation_log.specs.declared.record.Record.TheVariants.{Branch}
-use Rattle.refutation_log.specs.Steps.{IsStep, IsRange, result_of}
+use Rattle.refutation_log.specs.Steps.{IsStep, result_of}
 use Rattle.nogood_store.specs.declared.nogood.Nogood.{Nogood}
 use Rattle.nogood_store.specs.Hits.{PlainStore}
 use Rattle.branch_kernel.specs.declared.steps.Shown.{Shown}
@@ -25,16 +24,15 @@ use Rattle.plan_rule.proofs.CountLaws.{blocks-length}
 use Rattle.branch_core.specs.declared.report.Report.{Report}
 use Rattle.branch_core.specs.Beaten.{IsBeaten, exact_box}
 use Rattle.branch_core.specs.Hits.{GainsOneCiting, HasNoHit, IsFirstHit}
-use Rattle.branch_core.specs.Shapes.{IsEmptyWritten, IsEnded}
-use Rattle.branch_core.specs.Solved.{IsSolved, IsRefutation, MakesOneRecord}
-use Rattle.branch_kernel.specs.Growth.{Ends, IsReady, Runs}
-use Rattle.branch_kernel.specs.States.{State, state}
+use Rattle.branch_core.specs.Shapes.{IsEmptyWritten}
+use Rattle.branch_core.specs.Solved.{IsSolved, MakesOneRecord}
+use Rattle.branch_kernel.specs.Growth.{Ends, IsReady}
+use Rattle.branch_kernel.specs.States.{state}
 use Rattle.branch_kernel.specs.Written.{IsBranchWritten}
 use Rattle.branch_core.proofs.RegionLaws.{part_whole}
 use Rattle.branch_core.proofs.SolveLaws.{ends_falls, part_same}
 use Rattle.branch_kernel.proofs.EndLaws.{ends_add, ends_from}
 use Rattle.branch_kernel.proofs.GrowthLaws.{grows_self, slice_get-last}
-use Rattle.branch_kernel.proofs.NodeLaws.{runs_self}
 use Rattle.branch_kernel.proofs.WithLaws.{if_true}
 
 pub empty_box : (c : Choices) → IsBox c []
@@ -42,14 +40,18 @@ empty_box c = record { ascending = λ i j l m lt e f. absurd (none-some l e); ea
 
 empty_step : (c : Choices) (t : Option (List ℕ)) (log : List Record) (b : ℕ) (list : List ℕ) → b < blocks c → count c b ≡ 0 → ((x : ℕ) → Contains list x → ⊥) → IsStep c t log (Branch b 0 0 [] list)
 empty_step c t log b list exists none no_cites = record {
-  side_is = empty_box c; block = exists; free = All-nil (λ l. l.block ≢ b); range = inr (refl, refl, none);
+  side_is = empty_box c;
+  block = exists;
+  free = All-nil (λ l. l.block ≢ b);
+  range = inr (refl, refl, none);
   earlier_only = λ k d l. absurd (no_cites (get_or list k d) (k, l, same list k d (get_or list k d) l));
-  covered = λ code l h. absurd (omega arith) }
+  covered = λ code l h. absurd (omega arith);
+}
   where
-  same : (xs : List ℕ) (k d e : ℕ) → k < length xs → get_or xs k e ≡ get_or xs k d
-  same [] k d e l = absurd (omega arith)
-  same (x ∷ xs) zero d e l = refl
-  same (x ∷ xs) (suc k) d e l = same xs k d e (omega arith)
+    same : (xs : List ℕ) (k d e : ℕ) → k < length xs → get_or xs k e ≡ get_or xs k d
+    same [] k d e l = absurd (omega arith)
+    same (x ∷ xs) zero d e l = refl
+    same (x ∷ xs) (suc k) d e l = same xs k d e (omega arith)
 
 empty_result : (c : Choices) (b : ℕ) (list : List ℕ) → count c b ≡ 0 → result_of c (Branch b 0 0 [] list) ≡ []
 empty_result c b list none =
@@ -64,8 +66,8 @@ empty_ended : (c : Choices) (job : Job) (bar : ℕ) (log new : List Record) (sto
 empty_ended c job bar log new store shown ready is =
     let (list, at, grown, same) = is.written in
     subst (λ new. Ends c (state bar None log store) (state bar None new store)) (sym grown)
-      (ends_add c (state bar None log store) bar None log store.nogoods (Branch is.block 0 0 [] list) ready.fits ready.stored (grows_self c (state bar None log store))
-        (λ t rival. empty_step c t log is.block list is.exists is.none (λ x h. let (i, l, e) = (same x).0 h in absurd (omega arith))))
+    (ends_add c (state bar None log store) bar None log store.nogoods (Branch is.block 0 0 [] list) ready.fits ready.stored (grows_self c (state bar None log store))
+    (λ t rival. empty_step c t log is.block list is.exists is.none (λ x h. let (i, l, e) = (same x).0 h in absurd (omega arith))))
 
 -- the report
 pub empty_solved : (c : Choices) (job : Job) (bar bar' seen : ℕ) (log new : List Record) (store : PlainStore) (shown : Shown) → IsReady c job (state bar None log store) → bar' ≤ bar → seen ≡ bar' → IsBar c seen
@@ -83,9 +85,12 @@ empty_solved c job bar bar' seen log new store shown ready falls e is_bar is =
       least = λ right q feasible inside. absurd (no_plan q inside);
       ends = ends_falls c (state bar None log store) bar bar' None new store.nogoods ready.fits falls (empty_ended c job bar log new store shown ready is);
       last = (let n = length-append log (Branch b 0 0 [] list ∷ []) in let m = ap length grown in omega arith);
-      refutes = (Branch b 0 0 [] list,
+      refutes = (
+        Branch b 0 0 [] list,
         subst (λ k. slice_get new k ≡ Some (Branch b 0 0 [] list)) (sym at) (subst (λ new. slice_get new (length log) ≡ Some (Branch b 0 0 [] list)) (sym grown) (slice_get-last log (Branch b 0 0 [] list))),
-        record { box = subst (IsBox c) (sym (empty_result c b list none)) (empty_box c); part = λ codes lo hi part. (let (q, inside) = part.some in absurd (no_plan q inside)); empty = λ _ _ _. empty_result c b list none }) }
+        record { box = subst (IsBox c) (sym (empty_result c b list none)) (empty_box c); part = λ codes lo hi part. (let (q, inside) = part.some in absurd (no_plan q inside)); empty = λ _ _ _. empty_result c b list none },
+      );
+    }
 
 -- how the state ends, whatever came of the record, once the bar was seen
 pub empty_ends : (c : Choices) (job : Job) (bar bar' : ℕ) (log new : List Record) (store : PlainStore) (result : Result Shown NoMemory) → IsReady c job (state bar None log store)
@@ -112,9 +117,12 @@ on_err (Err e) A h = h
 pub empty_written : (c : Choices) (block b : ℕ) (old new : List Record) (shown : Shown) (side : List Literal) (cites : List ℕ) (found : ℕ) → block ≤ b → b < blocks c → found ≡ count c block → found ≤ 0
     → side ≡ [] → cites ≡ [] → IsBranchWritten (Ok shown.number) old new (record { block = block; lo = 0; hi = 0 }) side cites → IsEmptyWritten c old new shown
 empty_written c block b old new shown side cites found below exists value zero_ e f written = record {
-  block = block; exists = omega arith; none = omega arith;
+  block = block;
+  exists = omega arith;
+  none = omega arith;
   written = subst (λ cites. IsBranchWritten (Ok shown.number) old new (record { block = block; lo = 0; hi = 0 }) [] cites) f
-    (subst (λ side. IsBranchWritten (Ok shown.number) old new (record { block = block; lo = 0; hi = 0 }) side cites) e written) }
+      (subst (λ side. IsBranchWritten (Ok shown.number) old new (record { block = block; lo = 0; hi = 0 }) side cites) e written);
+}
 
 -- a region of one plan has a block
 pub part_some : (yard : PlainYard) (job : Job) (codes : List ℕ) (lo hi : ℕ) → 1 ≤ length yard.blocks → IsRegionPart (choices yard) job codes lo hi → hi ≡ 0 → 0 < length codes
@@ -127,6 +135,6 @@ pub one_record : (c : Choices) (job : Job) (codes : List ℕ) (lo hi bar : ℕ) 
     → IfOk result (λ _. MakesOneRecord c job bar store old new)
 one_record c job codes lo hi bar store old new (Ok r) part hit bound = λ other low high also. part_same c job
     (λ codes lo hi. ((place tag : ℕ) → IsFirstHit store codes place tag → GainsOneCiting old new tag)
-      × (HasNoHit store codes → IsBeaten c (exact_box 0 codes) bar → length new ≡ length old + 1))
+    × (HasNoHit store codes → IsBeaten c (exact_box 0 codes) bar → length new ≡ length old + 1))
     codes other lo hi low high part (hit, bound) also
 one_record c job codes lo hi bar store old new (Err e) part hit bound = tt

@@ -1,14 +1,13 @@
 -- Records that are steps can be written, and there is always an answer against which they are steps.
-use Rattle.std.proofs.Common.{◌≡◌, ℕ, ◌+◌, ◌-◌, ◌^◌, ◌<◌, ◌≤◌, List, [], ◌∷◌, length, take, get_or, Option, Some, None, ◌⊎◌, refl, sym, ap, ◌∙◌, subst, inl, inr, arith}
+use Rattle.std.proofs.Common.{◌≡◌, ℕ, ◌+◌, ◌<◌, ◌≤◌, List, [], ◌∷◌, length, take, get_or, Option, Some, None, sym, ap, ◌∙◌, subst, inl, inr, arith}
 use Rattle.std.specs.Prelude.{slice_get}
 use Rattle.std.specs.List.{All}
 use Rattle.std.proofs.lemmas.Bool.{cases_lt}
 use Rattle.std.proofs.lemmas.List.{length-take-le}
-use Rattle.std.proofs.lemmas.List.Elements.{All-head, All-tail, All-weaker, All-nil, recursion_from_All}
+use Rattle.std.proofs.lemmas.List.Elements.{All-head, All-weaker, All-nil, recursion_from_All}
 use Rattle.std.proofs.lemmas.Option.{same_Some, get_or_from_slice_get}
 use Rattle.plan_rule.specs.declared.literal.Literal.{Literal}
-use Rattle.plan_rule.specs.Choices.{Choices, blocks, count}
-use Rattle.plan_rule.specs.Plans.{IsFeasible}
+use Rattle.plan_rule.specs.Choices.{Choices}
 use Rattle.plan_rule.specs.Boxes.{IsBox, IsLiteral}
 use Rattle.plan_rule.specs.Paths.{key}
 use Rattle.plan_rule.specs.Reports.{IsBar}
@@ -130,7 +129,7 @@ pub proper_ends : (c : Choices) (old new : State) (seen from : ℕ) (log' : List
 proper_ends c old new seen from log' ends held is e same f proper =
     let first : from ≡ length old.log = f ∙ ap length same in
     subst (λ n. AreProper c n new.log) first
-      (proper_found c new.bar new.best new.log from (subst (IsBar c) e is) held (λ i low less t rival. ends.good i (subst (λ n. n ≤ i) first low) less t rival) proper)
+    (proper_found c new.bar new.best new.log from (subst (IsBar c) e is) held (λ i low less t rival. ends.good i (subst (λ n. n ≤ i) first low) less t rival) proper)
 
 -- no record is new
 pub proper_none : (c : Choices) (log : List Record) → AreProper c (length log) log

@@ -1,46 +1,40 @@
 -- The steps of a whole search: the front of a region, its one record, and the report.
-use Rattle.std.proofs.Common.{◌≡◌, ◌≢◌, ℕ, zero, suc, ◌+◌, ◌-◌, ◌/◌, ◌^◌, ◌<◌, ◌≤◌, List, [], ◌∷◌, ◌++◌, length, get_or, take, Option, Some, None, ◌⊎◌, refl, sym, ap, ◌∙◌, subst, inl, inr, arith, Bool, true, false, length-append, append_assoc}
-use Rattle.std.specs.Prelude.{Result, Ok, Err, IfOk, slice_get, ◌&&◌, ◌==◌, if◌then◌else◌}
-use Rattle.std.specs.List.{All, Any, Contains}
-use Rattle.std.proofs.lemmas.Bool.{cases_lt, cases_order, cases_Bool, eqb-true, eq-eqb, ne_eqb, true≢false, false≢true, and_parts}
+use Rattle.std.proofs.Common.{◌≡◌, ◌≢◌, ℕ, zero, suc, ◌+◌, ◌^◌, ◌<◌, ◌≤◌, List, [], ◌∷◌, ◌++◌, length, get_or, take, Option, Some, None, ◌⊎◌, refl, sym, ap, ◌∙◌, subst, inl, inr, arith, Bool, true, false}
+use Rattle.std.specs.Prelude.{◌&&◌, ◌==◌, if◌then◌else◌}
+use Rattle.std.specs.List.{Contains}
+use Rattle.std.proofs.lemmas.Bool.{cases_lt, eqb-true, eq-eqb, ne_eqb, true≢false}
 use Rattle.std.proofs.lemmas.List.{get_or-take}
-use Rattle.std.proofs.lemmas.List.Elements.{All-contains, All-weaker, All-nil, All-cons, All-append, Contains-append_left, Contains-append_right}
-use Rattle.std.proofs.lemmas.Option.{none-some, same_Some, slice_get_within}
+use Rattle.std.proofs.lemmas.List.Elements.{All-contains, All-weaker, All-nil, Contains-append_left, Contains-append_right}
+use Rattle.std.proofs.lemmas.Option.{none-some, same_Some}
 use Rattle.plan_rule.specs.declared.literal.Literal.{Literal}
 use Rattle.plan_rule.specs.declared.job.Job.{Job}
 use Rattle.plan_rule.specs.Choices.{Choices, blocks, count}
-use Rattle.plan_rule.specs.Plans.{code_of, IsPlan, IsFeasible, IsBefore, Extends, total}
-use Rattle.plan_rule.specs.Boxes.{IsBox, IsLiteral, IsWhole, Holds, LeavesFree, Covers, exact, with_literal}
+use Rattle.plan_rule.specs.Plans.{code_of, IsFeasible, IsBefore}
+use Rattle.plan_rule.specs.Boxes.{IsBox, IsLiteral, Holds, LeavesFree, Covers, exact, with_literal}
 use Rattle.plan_rule.specs.Paths.{key, IsInRegion}
-use Rattle.plan_rule.specs.Bounds.{IsAtMost}
-use Rattle.plan_rule.specs.Regions.{IsRegionPart, Follows}
+use Rattle.plan_rule.specs.Regions.{IsRegionPart}
 use Rattle.plan_rule.proofs.OnePartLaws.{one_part}
 use Rattle.plan_rule.specs.RegionBoxes.{exact_literals, range_literal, region_box}
 use Rattle.plan_rule.specs.Reports.{IsBar, IsReached, IsLeast}
 use Rattle.plan_rule.proofs.BoxLaws.{HoldsCode, held_with, held_without}
 use Rattle.refutation_log.specs.declared.record.Record.{Record}
-use Rattle.refutation_log.specs.declared.record.Record.TheVariants.{Branch, Fit, Energy}
-use Rattle.refutation_log.specs.Steps.{IsStep, IsRange, result_of}
+use Rattle.refutation_log.specs.Steps.{result_of}
 use Rattle.nogood_store.specs.declared.nogood.Nogood.{Nogood}
-use Rattle.nogood_store.specs.Hits.{IsMatched, Matches}
+use Rattle.nogood_store.specs.Hits.{Matches}
 use Rattle.branch_core.specs.declared.report.Report.{Report}
-use Rattle.branch_core.specs.Beaten.{exact_box}
 use Rattle.branch_core.specs.Shapes.{IsOfRegion, IsRegionShown, IsEnded}
-use Rattle.branch_core.specs.Solved.{IsSolved, IsRefutation, report_of}
+use Rattle.branch_core.specs.Solved.{IsSolved, report_of}
 use Rattle.branch_kernel.specs.Boxes.{IsClear, node_box, IsFront}
-use Rattle.branch_kernel.specs.Clean.{IsClean, StoreSettles}
-use Rattle.branch_kernel.specs.Growth.{Grows, Ends}
+use Rattle.branch_kernel.specs.Clean.{IsClean}
+use Rattle.branch_kernel.specs.Growth.{Ends}
 use Rattle.branch_kernel.specs.Nodes.{IsNode}
-use Rattle.branch_kernel.specs.Rivals.{IsRival, IsSettled, IsGood, IsLater, Settles}
-use Rattle.branch_kernel.specs.Shows.{IsShown}
-use Rattle.branch_kernel.specs.States.{State, state, relied, IsHeld, IsInside}
-use Rattle.branch_kernel.specs.Stored.{IsFresh, IsStored}
-use Rattle.branch_kernel.specs.Unbeaten.{IsAsked}
+use Rattle.branch_kernel.specs.Rivals.{IsSettled, IsLater, Settles}
+use Rattle.branch_kernel.specs.States.{State, relied, IsHeld, IsInside}
 use Rattle.branch_kernel.proofs.DropLaws.{answered_of}
 use Rattle.branch_kernel.proofs.GrowthLaws.{clean_falls, settles_falls}
 use Rattle.branch_kernel.proofs.NodeLaws.{held_falls}
-use Rattle.branch_kernel.proofs.RivalLaws.{later_self, later_trans, settled_later, rival_later}
-use Rattle.branch_kernel.proofs.WithLaws.{with_box, with_all, with_self, contains_with, exact_literal, if_true, if_false}
+use Rattle.branch_kernel.proofs.RivalLaws.{later_self, later_trans, rival_later}
+use Rattle.branch_kernel.proofs.WithLaws.{with_box, with_all, with_self, contains_with, exact_literal, if_false}
 
 -- what holds of a job's part holds of each, since there is one
 pub part_same : (c : Choices) (job : Job) (P : List ℕ → ℕ → ℕ → Type 0) (codes other : List ℕ) (lo hi low high : ℕ) → IsRegionPart c job codes lo hi
@@ -56,7 +50,8 @@ front_none c codes box e = subst (IsFront c codes 0) (sym e) (record {
   only = All-nil (λ l. (l.block < 0) × (l ≡ exact l.block (code_of codes l.block)));
   has = λ b l. absurd (omega arith);
   extends = λ q h b l. absurd (omega arith);
-  holds = λ q h. All-nil (HoldsCode q) })
+  holds = λ q h. All-nil (HoldsCode q);
+})
 
 pub front_free : (c : Choices) (codes : List ℕ) (n : ℕ) (box : List Literal) → IsFront c codes n box → LeavesFree box n
 front_free c codes n box f =
@@ -68,22 +63,26 @@ pub front_more : (c : Choices) (codes : List ℕ) (n : ℕ) (box next : List Lit
 front_more c codes n box next l exists below f e g = subst (IsFront c codes (n + 1)) (sym (g ∙ ap (with_literal box) e)) (record {
   is = with_box c box m f.is (exact_literal c n (code_of codes n) exists below);
   only = with_all (λ l. (l.block < n + 1) × (l ≡ exact l.block (code_of codes l.block))) box m
-    (All-weaker (λ l. (l.block < n) × (l ≡ exact l.block (code_of codes l.block))) (λ l. (l.block < n + 1) × (l ≡ exact l.block (code_of codes l.block)))
+      (All-weaker (λ l. (l.block < n) × (l ≡ exact l.block (code_of codes l.block))) (λ l. (l.block < n + 1) × (l ≡ exact l.block (code_of codes l.block)))
       (λ l h. let b = h.0 in (omega arith, h.1)) box f.only) (omega arith, refl);
   has = λ b h. elim (cases_lt b n) [
-      inl old ↦ All-contains (Contains (with_literal box m)) box (exact b (code_of codes b)) (contains_with box m free) (f.has b old)
-    | inr new ↦ let same : n ≡ b = omega arith in subst (λ b. Contains (with_literal box m) (exact b (code_of codes b))) same (with_self box m) ];
+    | inl old ↦ All-contains (Contains (with_literal box m)) box (exact b (code_of codes b)) (contains_with box m free) (f.has b old)
+    | inr new ↦ let same : n ≡ b = omega arith in subst (λ b. Contains (with_literal box m) (exact b (code_of codes b))) same (with_self box m)
+  ];
   extends = λ q held b h. let (inside, at) = held_without box m q free held in elim (cases_lt b n) [
-      inl old ↦ f.extends q inside b old
+    | inl old ↦ f.extends q inside b old
     | inr new ↦
         let same : n ≡ b = omega arith in
-        subst (λ b. code_of codes b ≡ code_of q b) same (let x = at.0 in let y = at.1 in omega arith) ];
-  holds = λ q h. held_with box m q (f.holds q (λ b i. h b (omega arith))) (let same = h n (omega arith) in (omega arith, omega arith)) })
+        subst (λ b. code_of codes b ≡ code_of q b) same (let x = at.0 in let y = at.1 in omega arith)
+  ];
+  holds = λ q h. held_with box m q (f.holds q (λ b i. h b (omega arith))) (let same = h n (omega arith) in (omega arith, omega arith));
+})
   where
-  m : Literal
-  m = exact n (code_of codes n)
-  free : LeavesFree box n
-  free = front_free c codes n box f
+    m : Literal
+    m = exact n (code_of codes n)
+
+    free : LeavesFree box n
+    free = front_free c codes n box f
 
 -- a stored box that the codes of a front meet contains the front's box
 pub codes_cover : (c : Choices) (codes : List ℕ) (part : List Literal) (n : ℕ) (box : List Literal) → IsFront c codes n box → Matches (take n codes) part → Covers c part box
@@ -96,10 +95,10 @@ codes_cover c codes part n box f meets k d l =
     let low = met.low in let high = met.high in
     inr (i, exact a.block (code_of codes a.block), within, is, (refl, omega arith, omega arith))
   where
-  take-below : (n : ℕ) (xs : List ℕ) → length (take n xs) ≤ n
-  take-below zero xs = omega arith
-  take-below (suc n) [] = omega arith
-  take-below (suc n) (x ∷ xs) = let h = take-below n xs in omega arith
+    take-below : (n : ℕ) (xs : List ℕ) → length (take n xs) ≤ n
+    take-below zero xs = omega arith
+    take-below (suc n) [] = omega arith
+    take-below (suc n) (x ∷ xs) = let h = take-below n xs in omega arith
 
 -- the codes of a region's prefix exist
 pub part_codes : (c : Choices) (job : Job) (codes : List ℕ) (lo hi : ℕ) → IsRegionPart c job codes lo hi → (b : ℕ) → b < length codes → (b < blocks c) × (code_of codes b < count c b)
@@ -122,9 +121,9 @@ region_holds c job codes lo hi n side part less front q feasible inside =
 held_node : (c : Choices) (side : List Literal) (b lo hi : ℕ) (q : List ℕ) → Holds side q → HoldsCode q (record { block = b; lo = lo; hi = hi }) → Holds (node_box c side b lo hi) q
 held_node c side b lo hi q held at = go ((lo == 0) && (hi == count c b))
   where
-  go : (t : Bool) → Holds (if t then side else with_literal side (record { block = b; lo = lo; hi = hi })) q
-  go true = held
-  go false = held_with side (record { block = b; lo = lo; hi = hi }) q held at
+    go : (t : Bool) → Holds (if t then side else with_literal side (record { block = b; lo = lo; hi = hi })) q
+    go true = held
+    go false = held_with side (record { block = b; lo = lo; hi = hi }) q held at
 
 -- and in that box with its next code
 pub front_holds : (c : Choices) (job : Job) (codes : List ℕ) (lo hi n : ℕ) (side : List Literal) → IsRegionPart c job codes lo hi → n < length codes → IsFront c codes n side
@@ -145,10 +144,13 @@ range_holds c job codes lo hi side part next front q feasible inside =
 pub region_node : (c : Choices) (job : Job) (codes : List ℕ) (lo hi : ℕ) (side : List Literal) → IsRegionPart c job codes lo hi → length codes < blocks c → IsFront c codes (length codes) side → IsClear c side
     → IsNode c job side (length codes) lo hi
 region_node c job codes lo hi side part next front clear = record {
-  side_is = front.is; clear = clear; block = next;
+  side_is = front.is;
+  clear = clear;
+  block = next;
   free = front_free c codes (length codes) side front;
   range = elim part.range [ inl some ↦ let x = some.1 in let y = some.2 in inl (omega arith, omega arith) | inr whole ↦ let x = whole.0 in absurd (omega arith) ];
-  region = λ q feasible held l h. (part.plans q feasible.is_plan).1 (front.extends q held, λ next. (l, h)) }
+  region = λ q feasible held l h. (part.plans q feasible.is_plan).1 (front.extends q held, λ next. (l, h));
+}
 
 -- the box of a region has the exact literals of its prefix, but on blocks with one code
 have_exact : (c : Choices) (b : ℕ) (codes : List ℕ) (i : ℕ) → i < length codes → count c (b + i) ≢ 1 → Contains (exact_literals c b codes) (exact (b + i) (code_of codes i))
@@ -156,84 +158,91 @@ have_exact c b [] i l ne = absurd (omega arith)
 have_exact c b (code ∷ codes) zero l ne =
     let e : b + 0 ≡ b = omega arith in
     subst (λ x. Contains (exact_literals c b (code ∷ codes)) (exact x code)) (sym e)
-      (first (count c b == 1) (ne_eqb (count c b) 1 (λ f. ne (ap (count c) e ∙ f))))
+    (first (count c b == 1) (ne_eqb (count c b) 1 (λ f. ne (ap (count c) e ∙ f))))
   where
-  first : (t : Bool) → t ≡ false → Contains ((if t then [] else exact b code ∷ []) ++ exact_literals c (suc b) codes) (exact b code)
-  first true e = absurd (true≢false e)
-  first false e = (0, omega arith, refl)
+    first : (t : Bool) → t ≡ false → Contains ((if t then [] else exact b code ∷ []) ++ exact_literals c (suc b) codes) (exact b code)
+    first true e = absurd (true≢false e)
+    first false e = (0, omega arith, refl)
 have_exact c b (code ∷ codes) (suc i) l ne =
     let e : suc b + i ≡ b + suc i = omega arith in
     Contains-append_right (if count c b == 1 then [] else exact b code ∷ []) (exact_literals c (suc b) codes) (exact (b + suc i) (code_of codes i))
-      (subst (λ x. Contains (exact_literals c (suc b) codes) (exact x (code_of codes i))) e (have_exact c (suc b) codes i (omega arith) (λ f. ne (ap (count c) (sym e) ∙ f))))
+    (subst (λ x. Contains (exact_literals c (suc b) codes) (exact x (code_of codes i))) e (have_exact c (suc b) codes i (omega arith) (λ f. ne (ap (count c) (sym e) ∙ f))))
 
 -- then what contains the box contains the region's box
 pub covers_region : (c : Choices) (outer box region : List Literal) → IsBox c outer → IsBox c box → IsOfRegion c region box → Covers c outer box → Covers c outer region
 covers_region c outer box region is box_is of cover k d l = elim (cover k d l) [
-    inl whole ↦ inl whole
+  | inl whole ↦ inl whole
   | inr some ↦
       let (j, m, within, here, (at, lo, hi)) = some in
       let a = get_or outer k d in
       let x : IsLiteral c a = is.each k d l in
       let y : IsLiteral c m = All-contains (IsLiteral c) box m box_is.each (j, within, here) in
       elim (All-contains (λ m. (count c m.block ≡ 1) ⊎ Contains region m) box m of (j, within, here)) [
-        inl one ↦
-          let e : count c m.block ≡ count c a.block = ap (count c) at in
-          let top = x.codes in let some = x.some in
-          inl (omega arith, omega arith)
-      | inr inside ↦ let (i, v, f) = inside in inr (i, m, v, f, (at, lo, hi)) ] ]
+        | inl one ↦
+            let e : count c m.block ≡ count c a.block = ap (count c) at in
+            let top = x.codes in let some = x.some in
+            inl (omega arith, omega arith)
+        | inr inside ↦ let (i, v, f) = inside in inr (i, m, v, f, (at, lo, hi))
+      ]
+]
 
 -- an exact literal of the prefix is of the region
 exact_of : (c : Choices) (codes : List ℕ) (lo hi : ℕ) (m : Literal) → m.block < length codes → m ≡ exact m.block (code_of codes m.block) → (count c m.block ≡ 1) ⊎ Contains (region_box c codes lo hi) m
 exact_of c codes lo hi m below e = go (count c m.block == 1) refl
   where
-  go : (t : Bool) → (count c m.block == 1) ≡ t → (count c m.block ≡ 1) ⊎ Contains (region_box c codes lo hi) m
-  go true f = inl (eqb-true (count c m.block) 1 f)
-  go false f = inr (Contains-append_left (exact_literals c 0 codes) (range_literal c (length codes) lo hi) m
-      (subst (Contains (exact_literals c 0 codes)) (sym e)
+    go : (t : Bool) → (count c m.block == 1) ≡ t → (count c m.block ≡ 1) ⊎ Contains (region_box c codes lo hi) m
+    go true f = inl (eqb-true (count c m.block) 1 f)
+    go false f = inr (Contains-append_left (exact_literals c 0 codes) (range_literal c (length codes) lo hi) m
+        (subst (Contains (exact_literals c 0 codes)) (sym e)
         (let z : 0 + m.block ≡ m.block = omega arith in
-          subst (λ b. Contains (exact_literals c 0 codes) (exact b (code_of codes m.block))) z
-            (have_exact c 0 codes m.block below (λ g. true≢false (sym (eq-eqb (count c m.block) 1 (ap (count c) (sym z) ∙ g)) ∙ f))))))
+        subst (λ b. Contains (exact_literals c 0 codes) (exact b (code_of codes m.block))) z
+        (have_exact c 0 codes m.block below (λ g. true≢false (sym (eq-eqb (count c m.block) 1 (ap (count c) (sym z) ∙ g)) ∙ f))))))
 
 -- the literals of a front are of the region
 front_of_region : (c : Choices) (codes : List ℕ) (lo hi n : ℕ) (side : List Literal) → n ≤ length codes → IsFront c codes n side → IsOfRegion c (region_box c codes lo hi) side
 front_of_region c codes lo hi n side less front =
     All-weaker (λ l. (l.block < n) × (l ≡ exact l.block (code_of codes l.block))) (λ m. (count c m.block ≡ 1) ⊎ Contains (region_box c codes lo hi) m) one side front.only
   where
-  one : (m : Literal) → (m.block < n) × (m ≡ exact m.block (code_of codes m.block)) → (count c m.block ≡ 1) ⊎ Contains (region_box c codes lo hi) m
-  one m (below, e) = exact_of c codes lo hi m (omega arith) e
+    one : (m : Literal) → (m.block < n) × (m ≡ exact m.block (code_of codes m.block)) → (count c m.block ≡ 1) ⊎ Contains (region_box c codes lo hi) m
+    one m (below, e) = exact_of c codes lo hi m (omega arith) e
 
 -- so are those of its box with its next code
 pub single_of_region : (c : Choices) (codes : List ℕ) (lo hi n : ℕ) (side : List Literal) → n < length codes → IsFront c codes n side
     → IsOfRegion c (region_box c codes lo hi) (node_box c side n (code_of codes n) (code_of codes n + 1))
 single_of_region c codes lo hi n side less front = go ((code_of codes n == 0) && (code_of codes n + 1 == count c n))
   where
-  l : Literal
-  l = record { block = n; lo = code_of codes n; hi = code_of codes n + 1 }
-  sides : IsOfRegion c (region_box c codes lo hi) side
-  sides = front_of_region c codes lo hi n side (omega arith) front
-  go : (t : Bool) → IsOfRegion c (region_box c codes lo hi) (if t then side else with_literal side l)
-  go true = sides
-  go false = with_all (λ m. (count c m.block ≡ 1) ⊎ Contains (region_box c codes lo hi) m) side l sides (exact_of c codes lo hi l less refl)
+    l : Literal
+    l = record { block = n; lo = code_of codes n; hi = code_of codes n + 1 }
+
+    sides : IsOfRegion c (region_box c codes lo hi) side
+    sides = front_of_region c codes lo hi n side (omega arith) front
+
+    go : (t : Bool) → IsOfRegion c (region_box c codes lo hi) (if t then side else with_literal side l)
+    go true = sides
+    go false = with_all (λ m. (count c m.block ≡ 1) ⊎ Contains (region_box c codes lo hi) m) side l sides (exact_of c codes lo hi l less refl)
 
 -- and those of its box with the region's range
 pub range_of_region : (c : Choices) (codes : List ℕ) (lo hi : ℕ) (side : List Literal) → lo < hi → IsFront c codes (length codes) side
     → IsOfRegion c (region_box c codes lo hi) (node_box c side (length codes) lo hi)
 range_of_region c codes lo hi side some front = go ((lo == 0) && (hi == count c (length codes))) refl
   where
-  l : Literal
-  l = record { block = length codes; lo = lo; hi = hi }
-  sides : IsOfRegion c (region_box c codes lo hi) side
-  sides = front_of_region c codes lo hi (length codes) side (omega arith) front
-  here : (t : Bool) → ((lo == 0) && (hi == count c (length codes))) ≡ t → t ≡ false → Contains (region_box c codes lo hi) l
-  here true e f = absurd (true≢false f)
-  here false e f = Contains-append_right (exact_literals c 0 codes) (range_literal c (length codes) lo hi) l
-      (subst (λ box. Contains box l)
+    l : Literal
+    l = record { block = length codes; lo = lo; hi = hi }
+
+    sides : IsOfRegion c (region_box c codes lo hi) side
+    sides = front_of_region c codes lo hi (length codes) side (omega arith) front
+
+    here : (t : Bool) → ((lo == 0) && (hi == count c (length codes))) ≡ t → t ≡ false → Contains (region_box c codes lo hi) l
+    here true e f = absurd (true≢false f)
+    here false e f = Contains-append_right (exact_literals c 0 codes) (range_literal c (length codes) lo hi) l
+        (subst (λ box. Contains box l)
         (sym (if_false (hi == 0) [] (if ((lo == 0) && (hi == count c (length codes))) then [] else l ∷ []) (ne_eqb hi 0 (λ z. absurd (omega arith)))
-          ∙ if_false ((lo == 0) && (hi == count c (length codes))) [] (l ∷ []) e))
+        ∙ if_false ((lo == 0) && (hi == count c (length codes))) [] (l ∷ []) e))
         (0, omega arith, refl))
-  go : (t : Bool) → ((lo == 0) && (hi == count c (length codes))) ≡ t → IsOfRegion c (region_box c codes lo hi) (if t then side else with_literal side l)
-  go true e = sides
-  go false e = with_all (λ m. (count c m.block ≡ 1) ⊎ Contains (region_box c codes lo hi) m) side l sides (inr (here false e refl))
+
+    go : (t : Bool) → ((lo == 0) && (hi == count c (length codes))) ≡ t → IsOfRegion c (region_box c codes lo hi) (if t then side else with_literal side l)
+    go true e = sides
+    go false e = with_all (λ m. (count c m.block ≡ 1) ⊎ Contains (region_box c codes lo hi) m) side l sides (inr (here false e refl))
 
 pub front_region : (c : Choices) (codes : List ℕ) (lo hi n : ℕ) (side : List Literal) → n ≤ length codes → IsFront c codes n side → IsOfRegion c (region_box c codes lo hi) side
 front_region c codes lo hi n side less front = front_of_region c codes lo hi n side less front
@@ -250,7 +259,8 @@ ends_falls c old bar bar' best log store fits falls e =
       asked = e.asked;
       stored = e.stored;
       settles = λ h. All-weaker (λ e. Settles c bar None e.part) (λ e. Settles c bar' None e.part) (λ e. settles_falls c bar bar' e.part falls) store (e.settles h);
-      clean = λ h. All-weaker (λ e. IsClean c bar log e.tag) (λ e. IsClean c bar' log e.tag) (λ e. clean_falls c bar bar' log e.tag fits falls) store (e.clean h) }
+      clean = λ h. All-weaker (λ e. IsClean c bar log e.tag) (λ e. IsClean c bar' log e.tag) (λ e. clean_falls c bar bar' log e.tag fits falls) store (e.clean h);
+    }
 
 -- so does what a search of a region has done
 pub ended_falls : (c : Choices) (job : Job) (old : State) (bar bar' : ℕ) (best : Option (List ℕ)) (log : List Record) (store : List Nogood) → bar < 2 ^ 64 → bar' ≤ bar
@@ -258,7 +268,8 @@ pub ended_falls : (c : Choices) (job : Job) (old : State) (bar bar' : ℕ) (best
 ended_falls c job old bar bar' best log store fits falls e = record {
   ends = ends_falls c old bar bar' best log store fits falls e.ends;
   held = held_falls c bar bar' best falls e.held;
-  inside = e.inside }
+  inside = e.inside;
+}
 
 -- the best of what is held and inside
 reached_from : (c : Choices) (r : Report) (bar : ℕ) (best : Option (List ℕ)) → r.best ≡ best → r.seen ≤ bar → IsHeld c bar best → IsInside c r.job best → IsReached c (report_of r)
@@ -272,11 +283,11 @@ least_from : (c : Choices) (r : Report) (bar : ℕ) (tie : Bool) (best : Option 
     → ((q : List ℕ) → IsFeasible c q → IsInRegion c r.job q → Holds box q) → Settles c bar (relied tie best) box → IsLeast c (report_of r)
 least_from c r bar tie best box e f holds settles q feasible region = go tie best e (settles q feasible (holds q feasible region))
   where
-  go : (tie : Bool) (best : Option (List ℕ)) → r.best ≡ best → IsSettled c bar (relied tie best) q
-      → (r.seen < key c q) ⊎ ((p : List ℕ) × (r.best ≡ Some p) × (IsBefore c q p → ⊥))
-  go true None e h = elim h [ inl l ↦ inl (omega arith) | inr w ↦ absurd w ]
-  go true (Some m) e h = elim h [ inl l ↦ inl (omega arith) | inr w ↦ inr (m, e, w) ]
-  go false best e h = elim h [ inl l ↦ inl (omega arith) | inr w ↦ absurd w ]
+    go : (tie : Bool) (best : Option (List ℕ)) → r.best ≡ best → IsSettled c bar (relied tie best) q
+        → (r.seen < key c q) ⊎ ((p : List ℕ) × (r.best ≡ Some p) × (IsBefore c q p → ⊥))
+    go true None e h = elim h [ inl l ↦ inl (omega arith) | inr w ↦ absurd w ]
+    go true (Some m) e h = elim h [ inl l ↦ inl (omega arith) | inr w ↦ inr (m, e, w) ]
+    go false best e h = elim h [ inl l ↦ inl (omega arith) | inr w ↦ absurd w ]
 
 -- some block of a region with a plan has no code: that cannot be
 no_empty : (c : Choices) (job : Job) (codes : List ℕ) (lo hi b : ℕ) → IsRegionPart c job codes lo hi → b < blocks c → count c b ≡ 0 → ⊥
@@ -299,8 +310,14 @@ solved c job codes lo hi old bar bar' seen best log store tie number fits falls 
       least = λ right. least_from c r bar tie best is.box refl (omega arith) is.holds (answer.settles right);
       ends = ends_falls c old bar bar' best log store fits falls ended.ends;
       last = is.last;
-      refutes = (is.shown.record_is, is.shown.at, record {
-        box = is.shown.result_is;
-        part = λ other low high also. part_same c job (λ codes lo hi. Covers c (result_of c is.shown.record_is) (region_box c codes lo hi)) codes other lo hi low high part
-          (covers_region c (result_of c is.shown.record_is) is.box (region_box c codes lo hi) is.shown.result_is is.box_is is.of is.shown.contains) also;
-        empty = λ b exists none. absurd (no_empty c job codes lo hi b part exists none) }) }
+      refutes = (
+        is.shown.record_is,
+        is.shown.at,
+        record {
+          box = is.shown.result_is;
+          part = λ other low high also. part_same c job (λ codes lo hi. Covers c (result_of c is.shown.record_is) (region_box c codes lo hi)) codes other lo hi low high part
+              (covers_region c (result_of c is.shown.record_is) is.box (region_box c codes lo hi) is.shown.result_is is.box_is is.of is.shown.contains) also;
+          empty = λ b exists none. absurd (no_empty c job codes lo hi b part exists none);
+        },
+      );
+    }

@@ -1,5 +1,5 @@
 -- The box of a region's prefix. No public clause speaks of this.
-use Rattle.std.specs.Prelude.{◌≡◌, ℕ, ◌<◌, List, length, MatchOption}
+use Rattle.std.specs.Prelude.{ℕ, ◌<◌, List, length, MatchOption}
 use Rattle.plan_rule.specs.Choices.{Choices, MeetsSome, blocks, count}
 use Rattle.plan_rule.specs.Plans.{code_of}
 use Rattle.plan_rule.specs.Boxes.{HasExact}

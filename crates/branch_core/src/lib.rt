@@ -19,3 +19,6 @@ pub use laws::records_are_steps;
 pub use planning::{Planned, plan_with_log};
 pub use report::Report;
 pub use solving::{solve, solve_with};
+
+#[cfg(test)]
+mod tests;

@@ -103,14 +103,7 @@ pub fn plan_with_log(alloc: Global, codes: &Codes) -> Result<Planned, NoMemory>
     let mut bars = OneBar::new(codes);
     let mut store = Nogoods::new(alloc)?;
     let mut log = Log::new(alloc);
-    let report = solve(
-        alloc,
-        codes,
-        Job::root(),
-        &mut bars,
-        &mut store,
-        &mut log,
-    )?;
+    let report = solve(alloc, codes, Job::root(), &mut bars, &mut store, &mut log)?;
     close_off(alloc, codes, &mut log, report.refutation)?;
     records_are_proper(codes, &log, 0);
     Ok(Planned {

@@ -21,6 +21,7 @@ use crate::single::{take_hit, take_last, take_misfit};
 use branch_kernel::{Bars, Shown, bounded, take_plan};
 use branch_search::{Hints, search_range};
 use code_table::Codes;
+use list_schedule::start_plan;
 use nogood_store::Nogoods;
 use plan_rule::{Job, Literal, Plan};
 use refutation_log::Log;
@@ -28,17 +29,31 @@ use shape_exact::NoMemory;
 use std::alloc::Global;
 use tardiness_bounds::YardTables;
 
-/// Takes the plan with which a search begins, if there is one.
+/// How many list schedules are tried where no plan is known yet.
+const FIRST_TRIES: u32 = 96;
+
+/// How many are tried where someone has found a plan.
+const LATER_TRIES: u32 = 8;
+
+/// Takes the plan with which a search begins: the one that is handed in, or else the best of some list schedules, where one
+/// of them is a plan of the region and costs no more than the bar's total.
 fn begin<B: Bars>(
+    alloc: Global,
     codes: &Codes,
+    tables: &YardTables<'_>,
     job: Job,
     bars: &mut B,
     best: &mut Option<Plan>,
+    front: &[u32],
+    lo: u32,
+    hi: u32,
     start: Option<Plan>,
-)
+) -> Result<(), NoMemory>
+    requires tables { tables.now.yard ≡ codes.now }
     requires served { B.yard bars.old ≡ codes.now }
     requires held { IsHeld (choices codes.now) (B.bar bars.old) best.old }
     requires inside { IsInside (choices codes.now) job best.old }
+    requires part { IsRegionPart (choices codes.now) job front.now lo hi }
     requires start { IfSome start (λ p. IsFeasible (choices codes.now) p × IsInRegion (choices codes.now) job p) }
     ensures served { B.yard bars.new ≡ codes.now }
     ensures home { B.home bars.new ≡ B.home bars.old }
@@ -48,7 +63,19 @@ fn begin<B: Bars>(
 {
     if let Some(plan) = start {
         take_plan(codes, job, bars, best, plan);
+        return Ok(());
     }
+    let bar = bars.see();
+    let most = (bar / 0x1_0000_0000) as u32;
+    let tries = if bar == u64::MAX {
+        FIRST_TRIES
+    } else {
+        LATER_TRIES
+    };
+    if let Some(plan) = start_plan(alloc, codes, tables, job, front, lo, hi, most, tries)? {
+        take_plan(codes, job, bars, best, plan);
+    }
+    Ok(())
 }
 
 /// Searches a region whose prefix meets no stored box: the prefix may have a misfit, its bounds may beat it, it may be
@@ -104,7 +131,7 @@ fn search_unmet<B: Bars>(
         lo,
         hi,
     };
-    begin(codes, job, bars, best, start);
+    begin(alloc, codes, tables, job, bars, best, front, lo, hi, start)?;
     search_range(
         alloc, codes, tables, job, bars, best, log, store, hints, &side, range,
     )
@@ -148,9 +175,7 @@ fn search_part<B: Bars>(
         → IfOk result (λ _. length log.new ≡ length log.old + 1) }
 {
     if let Some((place, tag)) = hit_from(store, front, 0) {
-        return take_hit(
-            alloc, codes, job, log, store, front, lo, hi, place, tag,
-        );
+        return take_hit(alloc, codes, job, log, store, front, lo, hi, place, tag);
     }
     search_unmet(
         alloc, codes, tables, job, bars, best, log, store, hints, front, lo, hi, start,

@@ -90,7 +90,17 @@ pub fn take_misfit(
     let needs = needs_of(misfit.other);
     let range = Literal::exact(misfit.place, front[usize::from(misfit.place)]);
     let cites = Vec::new(alloc);
-    close(alloc, codes, log, store, &misfit.side, range, &needs, cites, false)
+    close(
+        alloc,
+        codes,
+        log,
+        store,
+        &misfit.side,
+        range,
+        &needs,
+        cites,
+        false,
+    )
 }
 
 /// The record of a region of one plan, once the plan is taken.

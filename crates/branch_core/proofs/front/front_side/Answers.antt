@@ -1,4 +1,4 @@
-use Rattle.std.proofs.Common.{◌≡◌, ◌+◌, ◌<◌, ◌≤◌, length, arith}
+use Rattle.std.proofs.Common.{arith}
 use Rattle.plan_rule.specs.Yards.{choices}
 use Rattle.branch_core.proofs.SolveLaws.{front_more}
 use Rattle.branch_core.proofs.front.front_side.Goals as goal

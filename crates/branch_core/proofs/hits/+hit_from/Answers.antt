@@ -1,4 +1,4 @@
-use Rattle.std.proofs.Common.{◌≡◌, ◌+◌, ◌<◌, ◌≤◌, length, refl, arith}
+use Rattle.std.proofs.Common.{arith}
 use Rattle.branch_core.proofs.RegionLaws.{hit_more}
 use Rattle.branch_core.proofs.hits.+hit_from.Goals as goal
 

@@ -7,4 +7,4 @@ pub returns : goal.returns
 unfolding choices
 returns c = λ t steps.
     proper_from (choices c.args.codes.now) t c.args.log.now c.args.from (known c.args.codes.now c.yard-yard.ensures.limits c.yard-yard.ensures.few)
-      c.yard-yard.ensures.limits.days.1 c.citations_ascend.ensures steps
+    c.yard-yard.ensures.limits.days.1 c.citations_ascend.ensures steps

@@ -1,4 +1,4 @@
-use Rattle.std.proofs.Common.{◌≡◌, ◌≤◌, ◌/◌, ◌^◌, length, refl, sym, subst, arith}
+use Rattle.std.proofs.Common.{subst, arith}
 use Rattle.plan_rule.specs.Yards.{choices}
 use Rattle.branch_core.specs.Fronts.{IsFrontOf}
 use Rattle.branch_core.proofs.HitLaws.{not_beaten, match_some}
@@ -36,14 +36,14 @@ pub search_range-requires-clause-node : goal.search_range-requires-clause-node
 search_range-requires-clause-node g c =
     let front = subst (IsFrontOf (choices c.args.codes.now) c.args.front.now) c.in-Clear.is c.in_ok-misfit.ensures in
     region_node (choices c.args.codes.now) c.args.job c.args.front.now c.args.lo c.args.hi c.in-Clear.side c.requires.part
-      (part_next (choices c.args.codes.now) c.args.job c.args.front.now c.args.lo c.args.hi c.requires.part c.if-hi-eq0.false) front.0 front.1
+    (part_next (choices c.args.codes.now) c.args.job c.args.front.now c.args.lo c.args.hi c.requires.part c.if-hi-eq0.false) front.0 front.1
 
 pub returns-clause-ended : goal.returns-clause-ended
-returns-clause-ended g c = 
+returns-clause-ended g c =
     let ready = ready_later (choices c.args.codes.now) _ _ _ c.requires.ready c.bounded.ensures.runs in
     let begun = runs_later (choices c.args.codes.now) _ _ _ _ _ _ _ ready c.begin.ensures.later c.begin.ensures.held c.begin.ensures.inside in
     ended_from (choices c.args.codes.now) c.args.job _ _
-      (runs_onto (choices c.args.codes.now) _ _ _ _ c.requires.ready (runs_onto (choices c.args.codes.now) _ _ _ _ c.requires.ready c.bounded.ensures.runs begun) c.search_range.ensures.runs)
+    (runs_onto (choices c.args.codes.now) _ _ _ _ c.requires.ready (runs_onto (choices c.args.codes.now) _ _ _ _ c.requires.ready c.bounded.ensures.runs begun) c.search_range.ensures.runs)
 
 pub returns-clause-shown : goal.returns-clause-shown
 returns-clause-shown g c =
@@ -64,4 +64,10 @@ pub search_range-requires-clause-ready : goal.search_range-requires-clause-ready
 search_range-requires-clause-ready g c =
     let ready = ready_later (choices c.args.codes.now) _ _ _ c.requires.ready c.bounded.ensures.runs in
     ready_later (choices c.args.codes.now) _ _ _ ready
-      (runs_later (choices c.args.codes.now) _ _ _ _ _ _ _ ready c.begin.ensures.later c.begin.ensures.held c.begin.ensures.inside)
+    (runs_later (choices c.args.codes.now) _ _ _ _ _ _ _ ready c.begin.ensures.later c.begin.ensures.held c.begin.ensures.inside)
+
+pub returns-in_err-begin-clause-ended : goal.returns-in_err-begin-clause-ended
+returns-in_err-begin-clause-ended g c =
+    let ready = ready_later (choices c.args.codes.now) _ _ _ c.requires.ready c.bounded.ensures.runs in
+    let begun = runs_later (choices c.args.codes.now) _ _ _ _ _ _ _ ready c.begin.ensures.later c.begin.ensures.held c.begin.ensures.inside in
+    ended_from (choices c.args.codes.now) c.args.job _ _ (runs_onto (choices c.args.codes.now) _ _ _ _ c.requires.ready c.bounded.ensures.runs begun)

@@ -1,4 +1,4 @@
-use Rattle.std.proofs.Common.{◌≡◌, ◌<◌, ◌≤◌, ◌^◌, refl, subst, arith}
+use Rattle.std.proofs.Common.{refl, subst, arith}
 use Rattle.plan_rule.specs.Reports.{IsBar}
 use Rattle.plan_rule.specs.Yards.{choices}
 use Rattle.branch_core.proofs.EmptyLaws.{ok_of, on_err}
@@ -19,8 +19,8 @@ returns-in_err-shown-clause-proper g c =
     let falls = c.search_part-found.ensures.ended.ends.later.falls in
     let ended = ended_falls (choices c.args.codes.now) c.args.job _ _ _ c.search_part-found.new.best _ _ (omega arith) c.see-seen.ensures.falls c.search_part-found.ensures.ended in
     proper_ends (choices c.args.codes.now) _ _ c.see-seen.result _ c.records-first.result.now ended.ends ended.held
-      (subst (λ yard. IsBar (choices yard) c.see-seen.result) c.search_part-found.ensures.served c.see-seen.ensures.is_bar) c.see-seen.ensures.seen c.records-first.ensures.value refl
-      c.records_are_proper.ensures
+    (subst (λ yard. IsBar (choices yard) c.see-seen.result) c.search_part-found.ensures.served c.see-seen.ensures.is_bar) c.see-seen.ensures.seen c.records-first.ensures.value refl
+    c.records_are_proper.ensures
 
 pub returns-clause-proper : goal.returns-clause-proper
 returns-clause-proper g c =
@@ -28,14 +28,14 @@ returns-clause-proper g c =
     let falls = c.search_part-found.ensures.ended.ends.later.falls in
     let ended = ended_falls (choices c.args.codes.now) c.args.job _ _ _ c.search_part-found.new.best _ _ (omega arith) c.see-seen.ensures.falls c.search_part-found.ensures.ended in
     proper_ends (choices c.args.codes.now) _ _ c.see-seen.result _ c.records-first.result.now ended.ends ended.held
-      (subst (λ yard. IsBar (choices yard) c.see-seen.result) c.search_part-found.ensures.served c.see-seen.ensures.is_bar) c.see-seen.ensures.seen c.records-first.ensures.value refl
-      c.records_are_proper.ensures
+    (subst (λ yard. IsBar (choices yard) c.see-seen.result) c.search_part-found.ensures.served c.see-seen.ensures.is_bar) c.see-seen.ensures.seen c.records-first.ensures.value refl
+    c.records_are_proper.ensures
 
 pub returns-clause-solved : goal.returns-clause-solved
 returns-clause-solved g c =
     let fits = c.requires.ready.fits in
     let falls = c.search_part-found.ensures.ended.ends.later.falls in
     solved (choices c.args.codes.now) c.args.job c.args.front.now c.args.lo c.args.hi _ _ _ c.see-seen.result c.search_part-found.new.best _ _ c.in_ok-shown.shown.tie c.in_ok-shown.shown.number
-      (omega arith) c.see-seen.ensures.falls c.see-seen.ensures.seen
-      (subst (λ yard. IsBar (choices yard) c.see-seen.result) c.search_part-found.ensures.served c.see-seen.ensures.is_bar)
-      c.requires.part c.search_part-found.ensures.ended (ok_of c.search_part-found.result c.in_ok-shown.shown _ c.in_ok-shown.was c.search_part-found.ensures.shown)
+    (omega arith) c.see-seen.ensures.falls c.see-seen.ensures.seen
+    (subst (λ yard. IsBar (choices yard) c.see-seen.result) c.search_part-found.ensures.served c.see-seen.ensures.is_bar)
+    c.requires.part c.search_part-found.ensures.ended (ok_of c.search_part-found.result c.in_ok-shown.shown _ c.in_ok-shown.was c.search_part-found.ensures.shown)

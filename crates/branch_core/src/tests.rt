@@ -1,0 +1,144 @@
+//! Searches of small yards, worked by hand, and of made yards beside the plain search.
+
+use crate::{plan_with_log, solve};
+use branch_kernel::OneBar;
+use code_table::{Codes, placement_count};
+use nogood_store::Nogoods;
+use plain_search::best_plan;
+use plan_rule::{Job, Plan};
+use refutation_log::{Log, write_log};
+use shape_exact::{NoMemory, Yard};
+use std::alloc::Global;
+use std::test::Fail;
+use yard_file::read_yard;
+
+/// The codes of a yard with plates and blocks that have few placements; None for another yard.
+fn codes_of(alloc: Global, yard: &Yard) -> Result<Option<Codes>, NoMemory> {
+    if yard.plates().is_empty() || yard.blocks().is_empty() {
+        return Ok(None);
+    }
+    for block in 0..yard.blocks().len() {
+        if placement_count(yard, block as u8) > 1_048_576 {
+            return Ok(None);
+        }
+    }
+    let codes = Codes::new(alloc, yard)?;
+    Ok(Some(codes))
+}
+
+/// The codes of the yard with these days, plates and blocks.
+fn codes_in(alloc: Global, days: u16, plates: &str, blocks: &str) -> Result<Option<Codes>, Fail> {
+    let text = format!(in alloc; "version=1\ndays={days}\nplate=[{plates}]\nblock=[{blocks}]\n")?;
+    let yard = read_yard(alloc, text.as_bytes())?;
+    let codes = codes_of(alloc, &yard)?;
+    Ok(codes)
+}
+
+/// The codes of the plan; none where there is no plan.
+fn codes_told(alloc: Global, best: &Option<Plan>) -> Result<Vec<u32>, NoMemory> {
+    match best {
+        Some(plan) => Ok(plan.codes().to_vec(alloc)?),
+        None => Ok(Vec::new(alloc)),
+    }
+}
+
+const PLATE: &str = "{name='P',width=4,height=3}";
+
+const SQUARES: &str = "{name='A',weight=5,shape=[[0,0],[3,0],[3,3],[0,3]],duration=2,due=1},\
+    {name='B',weight=5,shape=[[0,0],[3,0],[3,3],[0,3]],duration=2,due=1}";
+
+/// Squares that share a plate in turn; three blocks that need 13 cells and days of the 12 that two days have; two triangles
+/// that may not be turned; a block that is wider than the plate.
+#[test]
+fn small_yards_have_these_plans_and_logs(rt: HostRuntime) -> Result<(), Fail> {
+    let low = "{name='P',width=3,height=2}";
+    let tall = "{name='P',width=4,height=4}";
+    let three = "{name='A',weight=2,shape=[[0,0],[2,0],[2,2],[0,2]],duration=2,due=1},\
+        {name='B',weight=3,shape=[[0,0],[1,0],[1,2],[0,2]],duration=2,due=1},\
+        {name='C',weight=4,shape=[[0,0],[1,0],[1,1],[0,1]],duration=1,due=1}";
+    let fixed = "{name='A',shape=[[0,0],[4,0],[0,4]],duration=1,due=0},\
+        {name='B',shape=[[0,0],[4,0],[0,4]],duration=1,due=0}";
+    let wide = "{name='A',shape=[[0,0],[5,0],[5,2],[0,2]],duration=1,due=0}";
+    let none: &[u32] = &[];
+    for (days, plates, blocks, best, log) in [
+        (10, PLATE, SQUARES, [0, 4].as_slice(), ""),
+        (10, low, three, [2, 2, 0].as_slice(), ""),
+        (2, low, three, none, "log 1\nenergy 0 1 -\nend\n"),
+        (
+            1,
+            tall,
+            fixed,
+            none,
+            "log 1\nbranch 1 0 1 0:0 -\nbranch 0 0 1 - 0\nend\n",
+        ),
+        (1, tall, wide, none, "log 1\nbranch 0 0 0 - -\nend\n"),
+    ] {
+        let Some(codes) = codes_in(rt.alloc(), days, plates, blocks)? else {
+            panic!(rt; "{blocks}");
+        };
+        let planned = plan_with_log(rt.alloc(), &codes)?;
+        let told = codes_told(rt.alloc(), &planned.best)?;
+        assert!(rt; told.as_slice() == best, "{blocks}");
+        let text = write_log(rt.alloc(), &planned.log)?;
+        assert!(rt;
+            log.is_empty() || text.as_slice() == log.as_bytes(),
+            "{blocks}"
+        );
+    }
+    Ok(())
+}
+
+/// The bar as the search of the job of all path numbers saw it last.
+fn seen_of(alloc: Global, codes: &Codes) -> Result<u64, NoMemory> {
+    let mut bars = OneBar::new(codes);
+    let mut store = Nogoods::new(alloc)?;
+    let mut log = Log::new(alloc);
+    let report = solve(alloc, codes, Job::root(), &mut bars, &mut store, &mut log)?;
+    Ok(report.seen)
+}
+
+/// The key of the plan 0, 4: its total 10 and its path number 67,108,864.
+#[test]
+fn two_squares_end_with_the_key_of_their_plan(rt: HostRuntime) -> Result<(), Fail> {
+    let Some(codes) = codes_in(rt.alloc(), 10, PLATE, SQUARES)? else {
+        panic!(rt; "two squares");
+    };
+    assert_eq!(rt; seen_of(rt.alloc(), &codes)?, 43_016_781_824);
+    Ok(())
+}
+
+/// A rectangle of which a number makes the sides, the duration, the due day and the weight.
+fn made_block(alloc: Global, name: &str, number: u32) -> Result<String, Fail> {
+    let x = 1 + number % 3;
+    let y = 1 + number / 3 % 2;
+    let days = 1 + number / 6 % 2;
+    let due = number / 12 % 3;
+    let weight = 1 + number / 36 % 4;
+    let text = format!(in alloc;
+        "[[block]]\nname='{name}'\nweight={weight}\nshape=[[0,0],[{x},0],[{x},{y}],[0,{y}]]\nduration={days}\ndue={due}\n"
+    )?;
+    Ok(text)
+}
+
+/// Three made blocks on a plate of 3 by 2 and four days: both searches answer the same plan.
+#[test]
+fn made_yards_have_the_plans_of_the_plain_search(rt: HostRuntime) -> Result<(), Fail> {
+    for seed in 0..24u32 {
+        let one = made_block(rt.alloc(), "A", seed * 37 % 144)?;
+        let two = made_block(rt.alloc(), "B", seed * 53 % 144)?;
+        let three = made_block(rt.alloc(), "C", seed * 71 % 144)?;
+        let text = format!(in rt.alloc();
+            "version=1\ndays=4\n[[plate]]\nname='P'\nwidth=3\nheight=2\n{one}{two}{three}"
+        )?;
+        let yard = read_yard(rt.alloc(), text.as_bytes())?;
+        let Some(codes) = codes_of(rt.alloc(), &yard)? else {
+            panic!(rt; "{text}");
+        };
+        let planned = plan_with_log(rt.alloc(), &codes)?;
+        let plain = best_plan(rt.alloc(), &codes)?;
+        let told = codes_told(rt.alloc(), &planned.best)?;
+        let other = codes_told(rt.alloc(), &plain)?;
+        assert!(rt; told.as_slice() == other.as_slice(), "{text}");
+    }
+    Ok(())
+}

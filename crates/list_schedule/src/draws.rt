@@ -1,0 +1,27 @@
+//! Numbers that are drawn by a linear congruence.
+ghost use Rattle.std.specs.Prelude.{◌<◌};
+
+/// A linear congruence modulo 2^64, with the factor and the step of Knuth's MMIX. It always begins with the same state.
+#[derive(Drop)]
+pub struct Draws {
+    state: u64,
+}
+
+impl Draws {
+    /// The first state.
+    pub fn new() -> Draws {
+        Draws { state: 12345 }
+    }
+
+    /// A number below `n`, by the high bits of the next state.
+    pub fn below(&mut self, n: usize) -> usize
+        requires { 0 < n }
+        ensures { result < n }
+    {
+        self.state = self
+            .state
+            .wrapping_mul(6_364_136_223_846_793_005)
+            .wrapping_add(1_442_695_040_888_963_407);
+        (self.state / 0x2_0000_0000) as usize % n
+    }
+}
