@@ -4,6 +4,7 @@ use super::yards::*;
 use crate::run;
 use shape_exact::NoMemory;
 use std::alloc::Global;
+use std::process::Abort;
 use std::test::Fail;
 use std::thread::Threads;
 use yard_io::{DeskCall, MemoryDesk, OpenGate};
@@ -57,7 +58,10 @@ fn pieces(bytes: usize) -> u64 {
 }
 
 /// The log of a run in which no call fails.
-fn whole_log<R: Threads + Sync + AllocGlobal>(rt: &R, yard: &[u8]) -> Result<Vec<u8>, Fail> {
+fn whole_log<R: Threads + Sync + AllocGlobal + Abort>(
+    rt: &R,
+    yard: &[u8],
+) -> Result<Vec<u8>, Fail> {
     let (ended, desk) = ends(rt, yard, DeskCall::Length, 1)?;
     assert_eq!(rt; ended, 0);
     let mut log = Vec::new(rt.alloc());
@@ -67,7 +71,7 @@ fn whole_log<R: Threads + Sync + AllocGlobal>(rt: &R, yard: &[u8]) -> Result<Vec
 
 /// What stands where the call with this number of its kind fails: of the log its first bytes, or no file, and of the plan
 /// its first bytes, but only once the log is whole.
-fn left<R: Threads + Sync + AllocGlobal>(rt: &R, desk: &MemoryDesk, call: DeskCall, nth: u64, log: &[u8]) {
+fn left<R: AllocGlobal + Abort>(rt: &R, desk: &MemoryDesk, call: DeskCall, nth: u64, log: &[u8]) {
     let told = desk.file("l");
     let made = told.unwrap_or(&[]);
     let (appended, said) = match call {
@@ -103,8 +107,16 @@ fn each_call_fails_in_turn(rt: HostRuntime) -> Result<(), Fail> {
         }
         let (ended, desk) = ends(&rt, yard.as_slice(), call, calls)?;
         assert_eq!(rt; ended, 0, "{call:?} {calls} is not made");
-        assert_eq!(rt; desk.file("l"), Some(log.as_slice()), "{call:?} {calls} is not made");
-        assert_eq!(rt; desk.said(), PLAN.as_bytes(), "{call:?} {calls} is not made");
+        assert_eq!(rt;
+            desk.file("l"),
+            Some(log.as_slice()),
+            "{call:?} {calls} is not made"
+        );
+        assert_eq!(rt;
+            desk.said(),
+            PLAN.as_bytes(),
+            "{call:?} {calls} is not made"
+        );
     }
     Ok(())
 }
