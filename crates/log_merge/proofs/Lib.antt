@@ -1,0 +1,6 @@
+pub mod Boxes
+pub mod Chains
+pub mod ClosingLaws
+pub mod Covering
+pub mod Halved
+pub mod MergeLaws

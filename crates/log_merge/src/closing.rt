@@ -1,0 +1,90 @@
+//! The record that closes a log.
+ghost use Rattle.std.specs.Prelude.{◌≡◌, ◌↔◌, ◌<◌, ◌^◌, ℕ, [], List, Option, IsTrue, IfOk};
+ghost use Rattle.plan_rule.specs.Choices.{blocks, count};
+ghost use Rattle.plan_rule.specs.Plans.{IsAnswer};
+ghost use Rattle.plan_rule.specs.Yards.{choices};
+ghost use Rattle.refutation_log.specs.Logs.{AreSteps};
+ghost use Rattle.refutation_log.specs.Steps.{IsAccepted, result_of};
+ghost use Rattle.plan_rule.specs.Fronts.{HasCodes};
+ghost use Rattle.log_merge.specs.Closing.{AllExist, CoversRoot, ExistsIn};
+ghost use Rattle.log_merge.specs.Merging.{IsMergeable};
+ghost use Rattle.log_merge.specs.Tiles.{root};
+
+use crate::{Leaf, merge};
+use code_table::Codes;
+use plan_rule::{Job, PlanBox};
+use refutation_log::{Cites, Log, Record};
+use shape_exact::NoMemory;
+use std::alloc::Global;
+
+/// Whether a range is all of the block's codes, and the side beside it is empty.
+fn is_whole(codes: &Codes, block: u8, lo: u32, hi: u32, side: &PlanBox) -> bool
+    requires { block < blocks (choices codes.now) }
+    ensures { IsTrue result ↔ ((side.now ≡ []) × (lo ≡ 0) × (hi ≡ count (choices codes.now) block)) }
+{
+    if !side.literals().is_empty() {
+        return false;
+    }
+    if lo != 0 {
+        return false;
+    }
+    hi == codes.count(block)
+}
+
+/// Whether the record refutes every plan: its result is the empty box.
+fn refutes_all(codes: &Codes, rec: &Record) -> bool
+    requires { ExistsIn (choices codes.now) rec.now }
+    ensures { IsTrue result ↔ (result_of (choices codes.now) rec.now ≡ []) }
+{
+    match rec {
+        Record::Branch {
+            block,
+            lo,
+            hi,
+            side,
+            ..
+        } => is_whole(codes, *block, *lo, *hi, side),
+        Record::Fit { side } => side.literals().is_empty(),
+        Record::Energy { side, .. } => side.literals().is_empty(),
+    }
+}
+
+/// Closes a log: where its last record does not refute every plan, one more does, over all codes of block 0. It cites the
+/// record of the root.
+pub fn close_log(alloc: Global, codes: &Codes, root: u64, log: &mut Log) -> Result<(), NoMemory>
+    requires { CoversRoot (choices codes.now) log.old root }
+    ensures { IfOk result (λ _. (t : Option (List ℕ)) → IsAnswer (choices codes.now) t → AreSteps (choices codes.now) t log.old → IsAccepted (choices codes.now) t log.new) }
+{
+    let _yard = codes.yard();
+    let records = log.records();
+    if refutes_all(codes, &records[records.len() - 1]) {
+        return Ok(());
+    }
+    let rec = Record::Branch {
+        block: 0,
+        lo: 0,
+        hi: codes.count(0),
+        side: PlanBox::new(alloc, &[])?,
+        cites: Cites::new(alloc, &[root])?,
+    };
+    log.push(rec)?;
+    Ok(())
+}
+
+/// Merges the records of leaves that make up the root, and closes the log. It is then accepted for each answer that may
+/// stand and against which its old records are steps.
+pub fn merge_all(
+    alloc: Global,
+    codes: &Codes,
+    leaves: &[Leaf],
+    log: &mut Log,
+) -> Result<(), NoMemory>
+    requires codes { HasCodes (choices codes.now) }
+    requires exist { AllExist (choices codes.now) log.old }
+    requires mergeable { IsMergeable (choices codes.now) root leaves.now 0 log.old }
+    ensures { IfOk result (λ _. (t : Option (List ℕ)) → IsAnswer (choices codes.now) t → AreSteps (choices codes.now) t log.old → IsAccepted (choices codes.now) t log.new) }
+{
+    let _yard = codes.yard();
+    let merged = merge(alloc, codes, Job::root(), leaves, 0, log)?;
+    close_log(alloc, codes, merged.record, log)
+}
