@@ -21,7 +21,7 @@ use Rattle.log_merge.specs.declared.merging.Leaf.{Leaf}
 use Rattle.log_merge.specs.Tiles.{root}
 use Rattle.log_merge.proofs.Covering.{covers_held}
 
-empty_box : (c : Choices) → IsBox c []
+pub empty_box : (c : Choices) → IsBox c []
 empty_box c = record { ascending = λ i j l m less e d. absurd (none-some l e); each = All-nil (IsLiteral c) }
 
 -- the box of one code of block 0

@@ -4,3 +4,4 @@ pub mod ClosingLaws
 pub mod Covering
 pub mod Halved
 pub mod MergeLaws
+pub mod LeafLaws

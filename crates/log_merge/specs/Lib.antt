@@ -1,3 +1,4 @@
 pub mod Closing
+pub mod Leaves
 pub mod Merging
 pub mod Tiles

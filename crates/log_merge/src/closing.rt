@@ -71,6 +71,30 @@ pub fn close_log(alloc: Global, codes: &Codes, root: u64, log: &mut Log) -> Resu
     Ok(())
 }
 
+/// Closes the log of a yard with a block that has no code: where its last record does not refute every plan, one more
+/// does, over no code of that block.
+pub fn close_empty(alloc: Global, codes: &Codes, block: u8, log: &mut Log) -> Result<(), NoMemory>
+    requires block { block < blocks (choices codes.now) }
+    requires none { count (choices codes.now) block ≡ 0 }
+    requires exist { AllExist (choices codes.now) log.old }
+    ensures { IfOk result (λ _. (t : Option (List ℕ)) → IsAnswer (choices codes.now) t
+        → AreSteps (choices codes.now) t log.old → IsAccepted (choices codes.now) t log.new) }
+{
+    let records = log.records();
+    if !records.is_empty() && refutes_all(codes, &records[records.len() - 1]) {
+        return Ok(());
+    }
+    let rec = Record::Branch {
+        block,
+        lo: 0,
+        hi: 0,
+        side: PlanBox::new(alloc, &[])?,
+        cites: Cites::new(alloc, &[])?,
+    };
+    log.push(rec)?;
+    Ok(())
+}
+
 /// Merges the records of leaves that make up the root, and closes the log. It is then accepted for each answer that may
 /// stand and against which its old records are steps.
 pub fn merge_all(

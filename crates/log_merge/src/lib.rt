@@ -6,7 +6,9 @@
 #![tactic(auto)]
 
 mod closing;
+mod leaves;
 mod merging;
 
-pub use closing::{close_log, merge_all};
+pub use closing::{close_empty, close_log, merge_all};
+pub use leaves::merge_leaves;
 pub use merging::{Leaf, Merged, merge};
