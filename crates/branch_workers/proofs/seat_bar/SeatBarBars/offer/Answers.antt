@@ -1,0 +1,9 @@
+use Rattle.std.proofs.Common.{arith, ap}
+use Rattle.branch_workers.proofs.BarLaws.{seen_last, seen_falls}
+use Rattle.branch_workers.proofs.seat_bar.SeatBarBars.offer.Goals as goal
+
+pub returns-clause-seen : goal.returns-clause-seen
+returns-clause-seen c = seen_last _ _ _ (ap (λ s. s.seen) c.offer.ensures.seen)
+
+pub returns-clause-falls : goal.returns-clause-falls
+returns-clause-falls c = seen_falls _ _ _ (omega (arith, c.offer.type_inv)) c.offer.ensures.least (ap (λ s. s.seen) c.offer.ensures.seen)

@@ -1,0 +1,9 @@
+pub mod Bars
+pub mod Best
+pub mod Work
+pub mod Stock
+pub mod Deal
+pub mod Gather
+pub mod Last
+pub mod Making
+pub mod Taken

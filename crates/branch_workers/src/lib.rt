@@ -1,0 +1,23 @@
+//! The crew: workers that solve the jobs of a yard side by side, and what they report, put together.
+//!
+//! Workers share a board (the best key and slots for capsules) and deques of jobs. Each has a store and a log of its own.
+//! No call waits for another worker, and no order of their steps changes the answer (`docs/SHARING.md`).
+#![tactic(auto)]
+
+mod best;
+mod crewed;
+mod deal;
+mod gather;
+mod logs;
+mod making;
+mod regions;
+mod reporting;
+mod running;
+mod seat_bar;
+mod stealing;
+mod worker;
+mod working;
+
+pub use crewed::{Crewed, crew};
+pub use worker::{Reports, Worker};
+pub use working::work;
