@@ -13,7 +13,9 @@ mod hints;
 mod levels;
 mod open;
 mod own;
+mod schedule;
 mod search;
+mod start;
 
 pub use hints::Hints;
 pub use search::search_range;
