@@ -8,7 +8,7 @@ use Rattle.plan_rule.specs.Choices.{Choices}
 use Rattle.plan_rule.specs.Boxes.{exact, with_literal}
 use Rattle.branch_kernel.specs.declared.covering.Covered.{Covered}
 use Rattle.branch_kernel.specs.declared.covering.Coverage.{Coverage}
-use Rattle.branch_kernel.specs.declared.covering.Coverage.TheVariants.{Open}
+use Rattle.branch_kernel.specs.declared.covering.Coverage.TheVariants.{Done, Open}
 use Rattle.branch_kernel.specs.States.{State}
 use Rattle.branch_kernel.specs.Boxes.{kept}
 use Rattle.branch_kernel.specs.Nodes.{IsOpenBox}
@@ -36,3 +36,8 @@ covers_from c start middle now side needs b code r g (handled, cited) = (
   λ keep some. handled_from c start middle now r.tie (kept keep side) _ b code g (handled keep some),
   cited_from c start middle now r.tie _ g cited,
 )
+
+pub coverage_from : (c : Choices) (job : Job) (start middle now : State) (side : List Literal) (needs : ℕ → Bool) (b code : ℕ) (r : Coverage) → Grows c start middle
+    → IsCoverage c job middle now side needs b code r → IsCoverage c job start now side needs b code r
+coverage_from c job start middle now side needs b code (Done r) g h = covers_from c start middle now side needs b code r g h
+coverage_from c job start middle now side needs b code (Open child) g h = h

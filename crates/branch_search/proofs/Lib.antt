@@ -1,3 +1,4 @@
 pub mod OpenLaws
 pub mod CycleLaws
 pub mod FitLaws
+pub mod FloorLaws

@@ -14,12 +14,13 @@ ghost use Rattle.branch_kernel.specs.Covers.{CoversCode};
 
 use crate::Hints;
 use crate::choose::choose;
+use crate::covering::cover_sparing;
 use crate::fits::fitted;
 use crate::open::{first_open, open_or};
 use crate::own::{cites_of, note, own_code};
 use branch_kernel::{
-    Bars, Blocks, Coverage, Covered, Shown, add_result, close, cover, cover_by_plan,
-    cover_by_record, names, range_on, with, without,
+    Bars, Blocks, Coverage, Covered, Shown, add_result, close, cover_by_plan, cover_by_record,
+    names, range_on, with, without,
 };
 use code_table::Codes;
 use nogood_store::Nogoods;
@@ -71,7 +72,7 @@ fn settle<B: Bars>(
         × IsShown (choices codes.now) (state (B.bar bars.old) best.old log.old store.old)
         (state (B.bar bars.new) best.new log.new store.new) r.covered.tie k side.now) }
 {
-    let child = match cover(
+    let child = match cover_sparing(
         alloc, codes, job, bars, best, log, store, side, block, code, needs,
     )? {
         Coverage::Done(covered) => {

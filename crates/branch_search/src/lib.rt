@@ -7,8 +7,10 @@
 #![tactic(auto)]
 
 mod choose;
+mod covering;
 mod cycle;
 mod fits;
+mod floor;
 mod hints;
 mod levels;
 mod open;

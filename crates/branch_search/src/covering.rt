@@ -1,0 +1,86 @@
+//! How one code of a block is covered by what a record needs already.
+ghost use Rattle.std.specs.Prelude.{◌≡◌, ◌+◌, ◌<◌, ◌^◌, ℕ, true, [], IfOk, IfSome};
+ghost use Rattle.plan_rule.specs.Boxes.{IsBox, LeavesFree};
+ghost use Rattle.plan_rule.specs.Choices.{blocks, count};
+ghost use Rattle.plan_rule.specs.Yards.{choices};
+ghost use Rattle.branch_kernel.specs.Known.{AreKnown};
+ghost use Rattle.branch_kernel.specs.Marks.{has};
+ghost use Rattle.branch_kernel.specs.Nodes.{IsNode};
+ghost use Rattle.branch_kernel.specs.Growth.{IsReady, Runs};
+ghost use Rattle.branch_kernel.specs.Shows.{IsHandledBy};
+ghost use Rattle.branch_kernel.specs.States.{IsHeld, State, state};
+ghost use Rattle.branch_kernel.specs.Covers.{IsCoverage};
+
+use crate::floor::beats_from;
+use branch_kernel::{Bars, Blocks, Coverage, Covered, clashing, cover, keep, with};
+use code_table::Codes;
+use nogood_store::Nogoods;
+use plan_rule::{Job, Literal, Plan, PlanBox};
+use refutation_log::Log;
+use shape_exact::NoMemory;
+use std::alloc::Global;
+use tardiness_bounds::base;
+
+/// Whether a code of a block is covered by the needed literals of a side alone: it clashes with one of them, or the base of
+/// them with the code leaves nothing worth finding. Some answers whether by a tie.
+fn kept_covers(
+    alloc: Global,
+    codes: &Codes,
+    bar: u64,
+    best: &Option<Plan>,
+    side: &PlanBox,
+    needs: &Blocks,
+    block: u8,
+    code: u32,
+) -> Result<Option<bool>, NoMemory>
+    requires known { AreKnown (choices codes.now) }
+    requires fits { bar < 2 ^ 64 }
+    requires held { IsHeld (choices codes.now) bar best.now }
+    requires side { IsBox (choices codes.now) side.now }
+    requires free { LeavesFree side.now block }
+    requires block { block < blocks (choices codes.now) }
+    requires code { code < count (choices codes.now) block }
+    ensures { IfOk result (λ o. IfSome o (λ tie. (start s : State) → s.bar ≡ bar → s.best ≡ best.now
+        → IsHandledBy (choices codes.now) start s tie side.now (has needs.now) [] block code)) }
+{
+    let short = keep(alloc, side, needs)?;
+    if let Some(_other) = clashing(codes, &short, block, code) {
+        return Ok(Some(false));
+    }
+    let part = with(alloc, &short, Literal::exact(block, code))?;
+    Ok(beats_from(codes, bar, best, &short, base(codes, &part)))
+}
+
+/// Covers one code of a block beside a side as the kernel does, but first by what is needed already, where that does.
+pub(crate) fn cover_sparing<B: Bars>(
+    alloc: Global,
+    codes: &Codes,
+    job: Job,
+    bars: &mut B,
+    best: &Option<Plan>,
+    log: &Log,
+    store: &Nogoods,
+    side: &PlanBox,
+    block: u8,
+    code: u32,
+    needs: &mut Blocks,
+) -> Result<Coverage, NoMemory>
+    requires served { B.yard bars.old ≡ codes.now }
+    requires ready { IsReady (choices codes.now) job (state (B.bar bars.old) best.now log.now store.now) }
+    requires node { IsNode (choices codes.now) job side.now block code (code + 1) }
+    ensures served { B.yard bars.new ≡ codes.now }
+    ensures home { B.home bars.new ≡ B.home bars.old }
+    ensures runs { Runs (choices codes.now) job (state (B.bar bars.old) best.now log.now store.now)
+        (state (B.bar bars.new) best.now log.now store.now) }
+    ensures needs { (x : ℕ) → has needs.old x ≡ true → has needs.new x ≡ true }
+    ensures covered { IfOk result (IsCoverage (choices codes.now) job (state (B.bar bars.old) best.now log.now store.now)
+        (state (B.bar bars.new) best.now log.now store.now) side.now (has needs.new) block code) }
+{
+    let bar = bars.see();
+    if let Some(tie) = kept_covers(alloc, codes, bar, best, side, needs, block, code)? {
+        return Ok(Coverage::Done(Covered { cite: None, tie }));
+    }
+    cover(
+        alloc, codes, job, bars, best, log, store, side, block, code, needs,
+    )
+}
