@@ -1,6 +1,6 @@
 -- What the steps of a search tell of one another.
 use Rattle.std.proofs.Common.{◌≡◌, ℕ, List, Option, Some, None, Bool, subst}
-use Rattle.std.specs.Prelude.{IfSome, MatchOption}
+use Rattle.std.specs.Prelude.{MatchOption}
 use Rattle.std.proofs.lemmas.Option.{none-some, same_Some}
 use Rattle.plan_rule.specs.declared.literal.Literal.{Literal}
 use Rattle.plan_rule.specs.declared.job.Job.{Job}
@@ -19,10 +19,6 @@ use Rattle.branch_kernel.proofs.GrowthLaws.{cited_from, handled_from}
 pub match_some : {T : Type 0} (o : Option T) (A : Type 0) (F : T → Type 0) (x : T) → MatchOption o A F → o ≡ Some x → F x
 match_some None A F x h e = absurd (none-some x e)
 match_some (Some y) A F x h e = subst F (same_Some y x e) h
-
-pub some_of : {T : Type 0} (o : Option T) (F : T → Type 0) (x : T) → IfSome o F → o ≡ Some x → F x
-some_of None F x h e = absurd (none-some x e)
-some_of (Some y) F x h e = subst F (same_Some y x e) h
 
 -- a code that is not covered leaves the side with the code open
 pub opened : (c : Choices) (job : Job) (start now : State) (side : List Literal) (needs : ℕ → Bool) (b code : ℕ) (r : Coverage) (child : List Literal)

@@ -16,7 +16,7 @@ use std::alloc::Global;
 use tardiness_bounds::{Bound, Frontier, YardTables, base};
 
 /// The exact literals of a box as a frontier.
-pub(crate) fn front_of<'a>(
+fn front_of<'a>(
     alloc: Global,
     tables: &'a YardTables<'a>,
     part: &PlanBox,

@@ -17,7 +17,7 @@ use crate::choose::choose;
 use crate::covering::cover_sparing;
 use crate::fits::fitted;
 use crate::open::{first_open, open_or};
-use crate::own::{cites_of, note, own_code};
+use crate::own::{Settled, cites_of, note, own_code};
 use branch_kernel::{
     Bars, Blocks, Coverage, Covered, Shown, add_result, close, cover_by_plan, cover_by_record,
     names, range_on, with, without,
@@ -29,13 +29,6 @@ use refutation_log::Log;
 use shape_exact::NoMemory;
 use std::alloc::Global;
 use tardiness_bounds::YardTables;
-
-/// How a code was settled. Where it `jumps`, its record was made last, and it shows the side without the code.
-#[derive(Clone, Copy, Drop)]
-struct Settled {
-    covered: Covered,
-    jumps: bool,
-}
 
 /// Settles one code of a block beside a side: by a step of the kernel, or by the record of a search below it, or by the plan
 /// that is left. Marks the blocks whose literals were needed.

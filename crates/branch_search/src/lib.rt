@@ -15,9 +15,7 @@ mod hints;
 mod levels;
 mod open;
 mod own;
-mod schedule;
 mod search;
-mod start;
 
 pub use hints::Hints;
 pub use search::search_range;

@@ -1,9 +1,17 @@
-//! Small steps of a walk: the best plan's own code, and what is cited.
+//! Small steps of a walk: how a code was settled, the best plan's own code, and what is cited.
 ghost use Rattle.std.specs.Prelude.{◌≡◌, ◌<◌, ◌≤◌, ◌++◌, IfOk, IfSome, option_to_list};
 
+use branch_kernel::Covered;
 use plan_rule::{Literal, Plan};
 use shape_exact::NoMemory;
 use std::alloc::Global;
+
+/// How a code was settled. Where it `jumps`, its record was made last, and it shows the side without the code.
+#[derive(Clone, Copy, Drop)]
+pub(crate) struct Settled {
+    pub covered: Covered,
+    pub jumps: bool,
+}
 
 /// Adds the number, if there is one.
 pub(crate) fn note(cites: &mut Vec<u64>, number: Option<u64>) -> Result<(), NoMemory>

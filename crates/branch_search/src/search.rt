@@ -1,8 +1,7 @@
 //! The search of a range of a block's codes beside a side.
 ghost use Rattle.std.specs.Prelude.{◌≡◌, ◌+◌, length, IfOk};
 ghost use Rattle.plan_rule.specs.Yards.{choices};
-ghost use Rattle.branch_kernel.specs.Rivals.{IsLater};
-ghost use Rattle.branch_kernel.specs.States.{IsHeld, IsInside, state};
+ghost use Rattle.branch_kernel.specs.States.{state};
 ghost use Rattle.branch_kernel.specs.Boxes.{node_box};
 ghost use Rattle.branch_kernel.specs.Nodes.{IsNode};
 ghost use Rattle.branch_kernel.specs.Growth.{IsReady, Runs};
@@ -10,8 +9,7 @@ ghost use Rattle.branch_kernel.specs.Shows.{IsShown};
 
 use crate::Hints;
 use crate::cycle::along;
-use crate::start::first_plan;
-use branch_kernel::{Bars, Shown, take_plan};
+use branch_kernel::{Bars, Shown};
 use code_table::Codes;
 use nogood_store::Nogoods;
 use plan_rule::{Job, Literal, Plan, PlanBox};
@@ -19,39 +17,6 @@ use refutation_log::Log;
 use shape_exact::NoMemory;
 use std::alloc::Global;
 use tardiness_bounds::YardTables;
-
-/// Takes a plan with which the search begins, where there is no best so far and one is found.
-fn begin<B: Bars>(
-    alloc: Global,
-    codes: &Codes,
-    tables: &YardTables<'_>,
-    job: Job,
-    bars: &mut B,
-    best: &mut Option<Plan>,
-    hints: &Hints,
-    side: &PlanBox,
-    range: Literal,
-) -> Result<(), NoMemory>
-    requires tables { tables.now.yard ≡ codes.now }
-    requires served { B.yard bars.old ≡ codes.now }
-    requires held { IsHeld (choices codes.now) (B.bar bars.old) best.old }
-    requires inside { IsInside (choices codes.now) job best.old }
-    requires node { IsNode (choices codes.now) job side.now range.block range.lo range.hi }
-    ensures served { B.yard bars.new ≡ codes.now }
-    ensures home { B.home bars.new ≡ B.home bars.old }
-    ensures later { IsLater (choices codes.now) (B.bar bars.old) best.old (B.bar bars.new) best.new }
-    ensures held { IsHeld (choices codes.now) (B.bar bars.new) best.new }
-    ensures inside { IsInside (choices codes.now) job best.new }
-{
-    if best.is_some() {
-        return Ok(());
-    }
-    let Some(plan) = first_plan(alloc, codes, tables, hints, side, range)? else {
-        return Ok(());
-    };
-    take_plan(codes, job, bars, best, plan);
-    Ok(())
-}
 
 /// Searches a range of a block's codes beside a side, whose feasible plans are plans of the job's region: afterwards the
 /// log's last record shows the box of the side and the range. Better plans are offered to the bar and become the best.
@@ -83,7 +48,6 @@ pub fn search_range<B: Bars>(
         (state (B.bar bars.new) best.new log.new store.new) shown.tie shown.number
         (node_box (choices codes.now) side.now range.block range.lo range.hi)) }
 {
-    begin(alloc, codes, tables, job, bars, best, hints, side, range)?;
     along(
         alloc, codes, tables, job, bars, best, log, store, hints, side, range,
     )
