@@ -4,3 +4,4 @@ pub mod HitLaws
 pub mod EmptyLaws
 pub mod ProperLaws
 pub mod AnswerLaws
+pub mod StoredLaws

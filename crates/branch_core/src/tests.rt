@@ -1,12 +1,12 @@
 //! Searches of small yards, worked by hand, and of made yards beside the plain search.
 
 use crate::{plan_with_log, solve};
-use branch_kernel::OneBar;
+use branch_kernel::{OneBar, count_of};
 use code_table::{Codes, placement_count};
 use nogood_store::Nogoods;
 use plain_search::best_plan;
-use plan_rule::{Job, Plan};
-use refutation_log::{Log, write_log};
+use plan_rule::{Job, Literal, Plan, PlanBox, block_count};
+use refutation_log::{Log, Record, write_log};
 use shape_exact::{NoMemory, Yard};
 use std::alloc::Global;
 use std::test::Fail;
@@ -140,5 +140,43 @@ fn made_yards_have_the_plans_of_the_plain_search(rt: HostRuntime) -> Result<(), 
         let other = codes_told(rt.alloc(), &plain)?;
         assert!(rt; told.as_slice() == other.as_slice(), "{text}");
     }
+    Ok(())
+}
+
+/// Whether the search of a yard, over a store of the box `0:0` and a log whose one record refutes it, adds one record,
+/// and that record cites the first.
+fn takes_the_hit(alloc: Global, codes: &Codes) -> Result<bool, NoMemory> {
+    if block_count(codes) == 0 || count_of(codes, 0) == 0 {
+        return Ok(false);
+    }
+    let literal = Literal::exact(0, 0);
+    let side = PlanBox::new(alloc, &[literal])?;
+    let part = PlanBox::new(alloc, &[literal])?;
+    let mut log = Log::new(alloc);
+    log.push(Record::Fit { side })?;
+    let mut store = Nogoods::new(alloc)?;
+    store.add(part, 0)?;
+    let mut bars = OneBar::new(codes);
+    solve(alloc, codes, Job::root(), &mut bars, &mut store, &mut log)?;
+    let records = log.records();
+    if records.len() != 2 {
+        return Ok(false);
+    }
+    match &records[1] {
+        Record::Branch { cites, .. } => Ok(cites.list() == [0].as_slice()),
+        _ => Ok(false),
+    }
+}
+
+/// Two triangles that may not be turned: the fit of the first one's code is Never.
+#[test]
+fn a_stored_box_costs_one_record(rt: HostRuntime) -> Result<(), Fail> {
+    let tall = "{name='P',width=4,height=4}";
+    let fixed = "{name='A',shape=[[0,0],[4,0],[0,4]],duration=1,due=0},\
+        {name='B',shape=[[0,0],[4,0],[0,4]],duration=1,due=0}";
+    let Some(codes) = codes_in(rt.alloc(), 1, tall, fixed)? else {
+        panic!(rt; "two triangles");
+    };
+    assert!(rt; takes_the_hit(rt.alloc(), &codes)?);
     Ok(())
 }
