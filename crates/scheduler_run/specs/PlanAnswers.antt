@@ -8,7 +8,7 @@ use Rattle.plan_rule.specs.Plans.{IsBest}
 use Rattle.plan_rule.specs.Yards.{choices}
 use Rattle.plan_text.specs.Texts.{plan_text}
 use Rattle.refutation_log.specs.declared.record.Record.{Record}
-use Rattle.refutation_log.specs.Spelling.{log_text}
+use Rattle.refutation_log.specs.Spelling.{HaveText, log_text}
 use Rattle.refutation_log.specs.Steps.{IsAccepted}
 use Rattle.scheduler_run.specs.Outcomes.{Outcome}
 use Rattle.scheduler_run.specs.Refusals.{IsRefusal}
@@ -19,12 +19,13 @@ status_of (Some plan) = 0
 status_of None = 3
 
 -- the text of the yard's best plan is said with status 0, or that no plan is feasible with status 3; and the file of this
--- name is made of the text of a log that is accepted for it
+-- name is made of the text of a log that is accepted for it, and reads as that log
 pub record PlansYard (yard : PlainYard) (log : List ℕ) (outcome : Outcome) : Type 0 where
   pub best : Option (List ℕ)
   pub is_best : IsBest (choices yard) best
   pub records : List Record
   pub accepted : IsAccepted (choices yard) best records
+  pub has_text : HaveText records
   pub status_is : outcome.status ≡ status_of best
   pub made_is : outcome.made ≡ Some (record { name = log; bytes = log_text records })
   pub said_is : outcome.said ≡ plan_text yard best
