@@ -17,6 +17,7 @@ mod solving;
 
 pub use laws::records_are_steps;
 pub use planning::{Planned, plan_with_log};
+pub use proper::records_are_proper;
 pub use report::Report;
 pub use solving::{solve, solve_with};
 

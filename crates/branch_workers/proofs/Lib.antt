@@ -16,3 +16,4 @@ pub mod TakenLaws
 pub mod StockLaws
 pub mod WeightLaws
 pub mod TraceLaws
+pub mod SharingLaws

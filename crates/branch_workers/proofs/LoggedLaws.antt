@@ -9,6 +9,7 @@ use Rattle.branch_core.specs.declared.report.Report.{Report}
 use Rattle.branch_core.specs.Proper.{AreProper}
 use Rattle.plan_rule.specs.Choices.{Choices}
 use Rattle.refutation_log.specs.declared.record.Record.{Record}
+use Rattle.refutation_log.specs.Logs.{CiteEarlier}
 use Rattle.refutation_log.proofs.AppendedLaws.{get_before}
 use Rattle.branch_kernel.proofs.GrowthLaws.{slice_get-less}
 use Rattle.branch_workers.specs.Work.{HasRecord, IsGrownLog, IsLogged, IsProved}
@@ -77,3 +78,7 @@ none_logged c log seen reports no_log no_reports = record {
   proved = subst (All (IsProved c log)) (sym no_reports) (All-nil (IsProved c log));
   seen_is = subst (All (λ (r : Report). Contains seen r.seen)) (sym no_reports) (All-nil (λ (r : Report). Contains seen r.seen));
 }
+
+-- the records of a grown log cite earlier records alone
+pub grown_cites : (c : Choices) (old new : List Record) (seen seen' : List ℕ) (before : List ℕ) (reports : List Report) → IsGrownLog c old new seen seen' → IsLogged c old before reports → CiteEarlier new
+grown_cites c old new seen seen' before reports g h i r at = (proper_grown c 0 old new (omega arith) g.grown h.proper g.proper i r (omega arith) at).earlier

@@ -27,7 +27,7 @@ use Rattle.branch_workers.specs.declared.worker.Worker.{Worker}
 use Rattle.branch_workers.specs.Work.{job_of_report}
 use Rattle.log_merge.proofs.MergeLaws.{grown_shown}
 
-same_result : (c : Choices) (n : ℕ) (r : Record) → result_of c (raised n r) ≡ result_of c r
+pub same_result : (c : Choices) (n : ℕ) (r : Record) → result_of c (raised n r) ≡ result_of c r
 same_result c n (Branch b lo hi side cites) = refl
 same_result c n (Fit side) = refl
 same_result c n (Energy from to side) = refl
@@ -37,7 +37,7 @@ same_exists c n (Branch b lo hi side cites) e = e
 same_exists c n (Fit side) e = e
 same_exists c n (Energy from to side) e = e
 
-get_map : {X Y : Type 0} (f : X → Y) (xs : List X) (k : ℕ) (x : X) → slice_get xs k ≡ Some x → slice_get (map f xs) k ≡ Some (f x)
+pub get_map : {X Y : Type 0} (f : X → Y) (xs : List X) (k : ℕ) (x : X) → slice_get xs k ≡ Some x → slice_get (map f xs) k ≡ Some (f x)
 get_map f [] k x e = absurd (none-some x e)
 get_map f (y ∷ xs) zero x e = ap (λ y. Some (f y)) (same_Some y x e)
 get_map f (y ∷ xs) (suc k) x e = get_map f xs k x e
@@ -53,12 +53,12 @@ later_shown c log own k job (r, at, box, holds) = (
 )
 
 -- what stands at a place of two lists
-place_of_two : {X : Type 0} (xs ys : List X) (i : ℕ) (x : X) → slice_get (xs ++ ys) i ≡ Some x → (slice_get xs i ≡ Some x) ⊎ ((j : ℕ) × (slice_get ys j ≡ Some x))
+pub place_of_two : {X : Type 0} (xs ys : List X) (i : ℕ) (x : X) → slice_get (xs ++ ys) i ≡ Some x → (slice_get xs i ≡ Some x) ⊎ ((j : ℕ) × (slice_get ys j ≡ Some x))
 place_of_two [] ys i x e = inr (i, e)
 place_of_two (y ∷ xs) ys zero x e = inl e
 place_of_two (y ∷ xs) ys (suc i) x e = place_of_two xs ys i x e
 
-unmapped : (n : ℕ) (log : List Record) (j : ℕ) (r : Record) → slice_get (map (raised n) log) j ≡ Some r → (s : Record) × (slice_get log j ≡ Some s) × (raised n s ≡ r)
+pub unmapped : (n : ℕ) (log : List Record) (j : ℕ) (r : Record) → slice_get (map (raised n) log) j ≡ Some r → (s : Record) × (slice_get log j ≡ Some s) × (raised n s ≡ r)
 unmapped n [] j r e = absurd (none-some r e)
 unmapped n (s ∷ log) zero r e = (s, refl, same_Some (raised n s) r e)
 unmapped n (s ∷ log) (suc j) r e = unmapped n log j r e

@@ -4,6 +4,7 @@ ghost use Rattle.branch_core.specs.declared.report.Report.{Report};
 ghost use Rattle.std.specs.List.{sum_by};
 ghost use Rattle.plan_rule.specs.declared.job.Job.{Job};
 ghost use Rattle.plan_rule.specs.Paths.{Tile};
+ghost use Rattle.refutation_log.specs.Spelling.{HaveText};
 ghost use Rattle.refutation_log.specs.Steps.{IsAccepted};
 ghost use Rattle.plan_rule.specs.Plans.{IsBest};
 ghost use Rattle.plan_rule.specs.Yards.{choices};
@@ -21,6 +22,7 @@ use crate::logs::take_logs;
 use crate::making::make;
 use crate::running::run_over;
 use crate::{Reports, Worker};
+use branch_core::records_are_proper;
 use code_table::Codes;
 use incumbent_word::Board;
 use log_merge::{Leaf, merge_leaves};
@@ -179,6 +181,7 @@ pub fn crew<R: Threads + Sync, G: Gate + Sync>(
     ensures short { IfOk result (λ v. All (λ r. r.job.length ≤ split) v.reports) }
     ensures sound { IfOk result (λ v. All (IsSound (choices codes.now)) v.reports) }
     ensures log { IfOk result (λ v. IsAccepted (choices codes.now) v.best v.log) }
+    ensures text { IfOk result (λ v. HaveText v.log) }
 {
     let (board, mut seat) = Board::new(alloc, codes)?;
     let tables = YardTables::new(alloc, codes)?;
@@ -208,6 +211,7 @@ pub fn crew<R: Threads + Sync, G: Gate + Sync>(
     } = collected?;
     let best = best_of(alloc, codes, reports.list())?;
     merge_leaves(alloc, codes, leaves, &mut log)?;
+    records_are_proper(codes, &log, 0);
     Ok(Crewed {
         best,
         last,

@@ -14,6 +14,7 @@ mod regions;
 mod reporting;
 mod running;
 mod seat_bar;
+mod sharing;
 mod stealing;
 mod worker;
 mod working;

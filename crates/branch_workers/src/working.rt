@@ -10,6 +10,7 @@ ghost use Rattle.branch_workers.specs.Work.{IsMade, Grown, IsInHand, IsSound, Is
 use crate::Worker;
 use crate::regions::splits;
 use crate::reporting::report_on;
+use crate::sharing::{post_last, take_in};
 use crate::stealing::{drain, next_job};
 use branch_search::Hints;
 use code_table::Codes;
@@ -53,7 +54,8 @@ fn halve(codes: &Codes, split: u8, bar: u64, job: Job, owner: &mut Owner) -> Job
     part
 }
 
-/// Halves the job where that pays, and solves what is left.
+/// Halves the job where that pays, and solves what is left. Then it posts the last refutation that was stored, and takes in
+/// what another worker has posted.
 fn take_job(
     alloc: Global,
     codes: &Codes,
@@ -68,20 +70,22 @@ fn take_job(
     requires job { IsJob job }
     requires tables { tables.now.yard ≡ codes.now }
     requires board { (worker.old.seat.place ≡ board.now) × (board.now.yard ≡ codes.now) }
+    requires number { worker.old.number < 16 }
+    requires logged { IsLogged (choices codes.now) worker.old.log worker.old.seat.seen worker.old.reports }
     requires stocked { IsStocked (choices codes.now) worker.old.log worker.old.store worker.old.seat.seen }
     ensures place { IsSamePlace worker.old worker.new × (worker.new.reaches ≡ worker.old.reaches) }
     ensures owner { IsSameOwner worker.old.owner worker.new.owner × (worker.new.owner.popped ≡ worker.old.owner.popped) }
     ensures made { Grown (IsMade (choices codes.now) split) worker.old.owner.pushed worker.new.owner.pushed }
     ensures reported { OnOk result (Grown (λ r. IsSound (choices codes.now) r × ((r.job ≡ job) ⊎ IsMade (choices codes.now) split r.job))
         worker.old.reports worker.new.reports) }
-    ensures logged { OnOk result (IsLogged (choices codes.now) worker.old.log worker.old.seat.seen worker.old.reports
-        → IsLogged (choices codes.now) worker.new.log worker.new.seat.seen worker.new.reports) }
+    ensures logged { OnOk result (IsLogged (choices codes.now) worker.new.log worker.new.seat.seen worker.new.reports) }
     ensures stocked { OnOk result (IsStocked (choices codes.now) worker.new.log worker.new.store worker.new.seat.seen) }
     ensures count { OnOk result ((x : ℕ) → sum_by (has x) worker.new.owner.pushed + times x (map job_of_report worker.new.reports)
         ≡ has x job + sum_by (has x) worker.old.owner.pushed + times x (map job_of_report worker.old.reports)) }
 {
     let bar = board.see(&mut worker.seat);
     let part = halve(codes, split, bar, job, &mut worker.owner);
+    let stored = worker.store.len();
     let report = report_on(
         alloc,
         codes,
@@ -92,6 +96,27 @@ fn take_job(
         &mut worker.store,
         &mut worker.log,
         hints,
+    )?;
+    post_last(
+        alloc,
+        codes,
+        board,
+        worker.number as u8,
+        stored,
+        report.seen,
+        &mut worker.seat,
+        &worker.store,
+        &worker.log,
+    );
+    let turn = worker.number as usize + 1 + worker.reports.list().len();
+    take_in(
+        alloc,
+        codes,
+        board,
+        (turn % 16) as u8,
+        &mut worker.seat,
+        &mut worker.store,
+        &mut worker.log,
     )?;
     worker.reports.push(report)?;
     Ok(())

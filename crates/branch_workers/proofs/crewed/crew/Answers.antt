@@ -8,6 +8,7 @@ use Rattle.log_merge.specs.Tiles.{times}
 use Rattle.branch_workers.proofs.CrewLaws.{all_deeper, back_seated, back_ready, back_tiled, below_back}
 use Rattle.branch_workers.proofs.BestLaws.{best_is, last_is, sound_reached}
 use Rattle.branch_workers.proofs.TraceLaws.{all_short, best_answers, dealt_back, leaves_of, once_back}
+use Rattle.branch_core.proofs.AnswerLaws.{proper_text}
 use Rattle.branch_workers.proofs.crewed.crew.Goals as goal
 
 pub reported-collected-requires-clause-dealt : goal.reported-collected-requires-clause-dealt
@@ -71,3 +72,8 @@ returns-clause-last g c =
     (subst (λ y. IsBar (choices y) c.close-last.result.word) c.in_ok-board.ensures.yard c.close-last.ensures.key)
     (below_back (choices c.args.codes.now) c.in_ok-reports.field-0.reports c.reported-collected.new.workers c.in_ok-crew.crew.len _ _ _
     (c.reported-collected.ensures.sizes.0 ∙ ap length c.as_mut_slice.ensures.value ∙ sym c.in_ok-crew.crew.ok.0) c.in_ok-reports.ensures.told c.settle.ensures.seen c.close-last.ensures.seen)
+
+pub returns-clause-text : goal.returns-clause-text
+returns-clause-text g c =
+    let accepted = returns-clause-log g c in
+    proper_text (choices c.args.codes.now) _ (c.records_are_proper.ensures c.in_ok-best.best (λ i low l. accepted.steps i l))

@@ -23,7 +23,7 @@ loop-job-preserved g c =
     record {
       place = record { number = c.take_job.ensures.place.0.number ∙ p.number; seat = c.take_job.ensures.place.0.seat ∙ p.seat; owner = w.same; reaches = w.places };
       working = w;
-      logged = c.in_ok-take_job.ensures.logged c.loop-job.invariant.logged;
+      logged = c.in_ok-take_job.ensures.logged;
       stocked = c.in_ok-take_job.ensures.stocked;
     }
 
