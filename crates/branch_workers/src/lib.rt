@@ -22,3 +22,6 @@ mod working;
 pub use crewed::{Crewed, crew};
 pub use worker::{Reports, Worker};
 pub use working::work;
+
+#[cfg(test)]
+mod tests;
