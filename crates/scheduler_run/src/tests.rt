@@ -3,6 +3,7 @@ ghost use Rattle.std.specs.Prelude.{◌≡◌};
 
 mod calling;
 mod checks;
+mod crews;
 mod early;
 mod failing;
 mod logs;
@@ -75,13 +76,23 @@ fn words_and_bytes(rt: HostRuntime) -> Result<(), Fail> {
 /// The status, and whether the text was said, for the yard that these parts make; None where there is an answer and `check`
 /// does not certify the text with the log.
 fn says<R: Threads + Sync + AllocGlobal>(rt: &R, parts: &[&str], said: &str) -> Option<(u8, bool)> {
+    says_to(rt, PLAN, parts, said)
+}
+
+/// The same for these words of a plan.
+fn says_to<R: Threads + Sync + AllocGlobal>(
+    rt: &R,
+    words: &[&str],
+    parts: &[&str],
+    said: &str,
+) -> Option<(u8, bool)> {
     let mut yard = Vec::new(rt.alloc());
     for part in parts {
         yard.extend_from_slice(part.as_bytes()).ok()?;
     }
     let mut desk = QuietDesk::new(rt.alloc(), 64).ok()?;
     desk.put("y", yard.as_slice()).ok()?;
-    let ended = run_quietly(rt, rt.alloc(), PLAN, &mut desk);
+    let ended = run_quietly(rt, rt.alloc(), words, &mut desk);
     let is_said = desk.said() == said.as_bytes();
     if ended.0 != 1 {
         desk.put("p", said.as_bytes()).ok()?;

@@ -17,10 +17,12 @@ use std::thread::Threads;
 use yard_io::{Desk, Gate, OpenGate, QuietDesk, Trouble};
 
 /// The reply to the words.
-fn reply_to<'a, D: Desk>(
+fn reply_to<'a, R: Threads + Sync, D: Desk, G: Gate + Sync>(
+    rt: &R,
     alloc: Global,
     words: &[&'a str],
     desk: &mut D,
+    gate: &G,
 ) -> Result<Reply<'a>, Trouble>
     ensures answer { IfOk result (λ reply.
         Answers (map (λ w. w.now) words.now) (D.file desk.old) (outcome_of reply)) }
@@ -34,7 +36,14 @@ fn reply_to<'a, D: Desk>(
     ensures writes { D.write_faults desk.old ≤ D.write_faults desk.new }
 {
     match command_of(words) {
-        Some(Command::Plan { yard, log, .. }) => reply_to_plan(alloc, yard, log, desk),
+        Some(
+            Command::Plan {
+                yard,
+                log,
+                workers,
+                split,
+            },
+        ) => { reply_to_plan(rt, alloc, gate, yard, workers, split, log, desk) }
         Some(Command::Check { yard, plan, log }) => reply_to_check(alloc, yard, plan, log, desk),
         Some(Command::Gen { seed, blocks }) => Ok(reply_to_gen(alloc, seed, blocks)?),
         None => Ok(usage(alloc)?),
@@ -67,11 +76,11 @@ fn give<D: Desk>(reply: &Reply<'_>, desk: &mut D) -> Status
 /// of writing, 6 want of memory, of the product's own or of the desk; no clause says when memory is wanting.
 #[tactic(auto, using(crate::proofs::AnswerLaws::usage_status))]
 pub fn run<R: Threads + Sync, D: Desk, G: Gate + Sync>(
-    _rt: &R,
+    rt: &R,
     alloc: Global,
     words: &[&str],
     desk: &mut D,
-    _gate: &G,
+    gate: &G,
 ) -> Status
     // What is made and said, with which status, where the run was not cut short.
     ensures answer { IsAnswered result.0 → GivesAnswer (map (λ w. w.now) words.now) (D.tells desk.old) result.0
@@ -91,7 +100,7 @@ pub fn run<R: Threads + Sync, D: Desk, G: Gate + Sync>(
     // No file but the one that a command makes is ever changed.
     ensures files { KeepsOthers (map (λ w. w.now) words.now) (D.file desk.old) (D.file desk.new) }
 {
-    match reply_to(alloc, words, desk) {
+    match reply_to(rt, alloc, words, desk, gate) {
         Ok(reply) => give(&reply, desk),
         Err(Trouble::Failed) => Status(4),
         Err(Trouble::Memory) => Status(6),
