@@ -1,5 +1,6 @@
 mod ExactLaws
 mod RestLaws
+mod SideLaws
 mod WindowLaws
 mod SlotLaws
 mod GapLaws

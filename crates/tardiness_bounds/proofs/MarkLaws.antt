@@ -1,6 +1,6 @@
 -- Days that are marked for the blocks that are not exact in a box.
-use Rattle.std.proofs.Common.{◌≡◌, ℕ, ◌+◌, ◌<◌, List, Option, Some, None, Bool, true, false, get_or, length, refl, sym, ap, ◌∙◌, subst, inl, inr, arith}
-use Rattle.std.specs.Prelude.{◌↔◌, is_some}
+use Rattle.std.proofs.Common.{◌≡◌, ℕ, ◌+◌, ◌<◌, List, Some, None, Bool, true, false, get_or, length, sym, ap, ◌∙◌, subst, inl, inr, arith}
+use Rattle.std.specs.Prelude.{◌↔◌}
 use Rattle.std.proofs.lemmas.Bool.{cases_lt, cases_order, false≢true}
 use Rattle.std.proofs.lemmas.Option.{none-some}
 use Rattle.std.proofs.Math.ListN.{set}
@@ -51,11 +51,3 @@ mark_past c box figure n code marks fixed h d l = (
     | inr here ↦ absurd (none-some code (sym f ∙ ap (exact_code box) (let q : b ≡ n = omega arith in q) ∙ fixed))
   ],
 )
-
-pub none_told : (o : Option ℕ) → is_some o ≡ false → o ≡ None
-none_told None e = refl
-none_told (Some x) e = absurd (false≢true (sym e))
-
-pub some_told : (o : Option ℕ) → is_some o ≡ true → (x : ℕ) × (o ≡ Some x)
-some_told None e = absurd (false≢true e)
-some_told (Some x) e = (x, refl)

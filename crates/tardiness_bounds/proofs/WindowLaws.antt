@@ -1,6 +1,6 @@
 -- The figures of a yard's blocks, and the least raise block by block.
 use Rattle.std.proofs.Common.{◌≡◌, ℕ, zero, suc, ◌+◌, ◌-◌, ◌*◌, ◌<◌, ◌≤◌, max, min, List, length, Option, Some, None, refl, sym, ap, ◌∙◌, subst, inl, inr, arith, true, false, add-one}
-use Rattle.std.specs.Prelude.{slice_get, is_none, is_some, nat_le, ◌&&◌, IfSome}
+use Rattle.std.specs.Prelude.{slice_get, is_none, nat_le, ◌&&◌, IfSome}
 use Rattle.std.specs.Option.{option_map_or}
 use Rattle.std.proofs.lemmas.Bool.{cases_lt, cond-true, true≢false}
 use Rattle.std.proofs.lemmas.Option.{same_Some}
@@ -191,11 +191,6 @@ pub lesser_few : (n : ℕ) (a b : Option ℕ) → IfSome a (λ v. v < n) → IfS
 lesser_few n None b f g = g
 lesser_few n (Some u) None f g = f
 lesser_few n (Some u) (Some v) f g = omega arith
-
--- an answer that is not some is none
-pub none_of : (o p : Option ℕ) → o ≡ p → is_some o ≡ false → p ≡ None
-none_of None p e f = sym e
-none_of (Some d) p e f = absurd (true≢false f)
 
 -- what the pieces take, piece by piece
 pub standing_is : (yard : PlainYard) (first last n : ℕ) → n ≡ length yard.fixed → (choices yard).standing first last ≡ sum_below n (stood_at yard first last)

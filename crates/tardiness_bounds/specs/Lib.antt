@@ -1,5 +1,6 @@
 pub mod Numbers
 pub mod Windows
+pub mod Sides
 pub mod Firsts
 pub mod Slots
 pub mod Footprints

@@ -1,16 +1,18 @@
 //! The window of greatest energy.
-ghost use Rattle.std.specs.Prelude.{◌≡◌, ◌≤◌, ◌<◌, ◌+◌, ◌↔◌, ◌⊎◌, ℕ, IsTrue, true, slice_index_or, false};
+ghost use Rattle.std.specs.Prelude.{◌≡◌, ◌≤◌, ◌<◌, ◌+◌, ◌*◌, ◌↔◌, ◌⊎◌, ℕ, IsTrue, Some, true, slice_index_or, false};
 ghost use Rattle.plan_rule.specs.Boxes.{IsBox};
-ghost use Rattle.plan_rule.specs.Bounds.{IsBase, IsEnergy};
+ghost use Rattle.plan_rule.specs.Bounds.{IsBase};
 ghost use Rattle.plan_rule.specs.Yards.{choices};
 ghost use Rattle.tardiness_bounds.specs.BestWindows.{AnyWindow, IsAbove, IsBestAmong, IsBestWindow, IsCandidate, IsDue, IsStart, Precedes, bar_of};
+ghost use Rattle.tardiness_bounds.specs.Sides.{AreExactPlaces};
 ghost use Rattle.tardiness_bounds.specs.Numbers.{number};
 
-use crate::base_of::base;
+use crate::base_of::sum;
 use crate::block::block_at;
-use crate::bound::Bound;
-use crate::energy_of::energy;
-use crate::rest::exact_in;
+use crate::bound::{Bound, bound_of};
+use crate::energy_of::energy_in;
+use crate::side::Side;
+use crate::window::Window;
 use code_table::Codes;
 use plan_rule::{PlanBox, block_count};
 
@@ -23,13 +25,15 @@ pub(crate) struct Best {
 }
 
 /// Which days are the release of a block that is not exact in the box.
-fn starts_of(codes: &Codes, part: &PlanBox) -> [bool; 400]
-    ensures { (d : ℕ) → d < 400 → (slice_index_or result d false ≡ true) ↔ IsStart (choices codes.now) part.now d }
+fn starts_of(codes: &Codes, side: &Side<'_>) -> [bool; 400]
+    requires { AreExactPlaces codes.now side.now }
+    ensures { (d : ℕ) → d < 400 → (slice_index_or result d false ≡ true) ↔ IsStart (choices codes.now) side.now.literals d }
 {
     let _yard = codes.yard();
     let mut is_start = [false; 400];
     for block in 0..block_count(codes) {
-        if exact_in(part, block).is_none() {
+        let place = side.place(block);
+        if place.is_none() {
             is_start[block_at(codes, block).release as usize] = true;
         }
     }
@@ -37,13 +41,15 @@ fn starts_of(codes: &Codes, part: &PlanBox) -> [bool; 400]
 }
 
 /// Which days are the due day of a block that is not exact in the box.
-fn dues_of(codes: &Codes, part: &PlanBox) -> [bool; 400]
-    ensures { (d : ℕ) → d < 400 → (slice_index_or result d false ≡ true) ↔ IsDue (choices codes.now) part.now d }
+fn dues_of(codes: &Codes, side: &Side<'_>) -> [bool; 400]
+    requires { AreExactPlaces codes.now side.now }
+    ensures { (d : ℕ) → d < 400 → (slice_index_or result d false ≡ true) ↔ IsDue (choices codes.now) side.now.literals d }
 {
     let _yard = codes.yard();
     let mut is_due = [false; 400];
     for block in 0..block_count(codes) {
-        if exact_in(part, block).is_none() {
+        let place = side.place(block);
+        if place.is_none() {
             is_due[block_at(codes, block).due as usize] = true;
         }
     }
@@ -74,20 +80,21 @@ fn bar_of(best: Option<Best>, base: Bound) -> Bound
 /// The best window, with one candidate more, after those before it.
 fn with_window(
     codes: &Codes,
-    part: &PlanBox,
-    base: Bound,
+    side: &Side<'_>,
+    base: u32,
     best: Option<Best>,
     u: u16,
     e: u16,
 ) -> Option<Best>
-    requires part { IsBox (choices codes.now) part.now }
-    requires base { IsBase (choices codes.now) part.now (number base) }
-    requires best { IsBestAmong (choices codes.now) part.now (Precedes u e) best }
-    requires candidate { IsCandidate (choices codes.now) part.now u e }
-    ensures { IsBestAmong (choices codes.now) part.now (Precedes u (e + 1)) result }
+    requires side { AreExactPlaces codes.now side.now }
+    requires base { IsBase (choices codes.now) side.now.literals (Some base) }
+    requires few { base ≤ 400000 * 32 }
+    requires best { IsBestAmong (choices codes.now) side.now.literals (Precedes u e) best }
+    requires candidate { IsCandidate (choices codes.now) side.now.literals u e }
+    ensures { IsBestAmong (choices codes.now) side.now.literals (Precedes u (e + 1)) result }
 {
-    let next = energy(codes, part, u, e);
-    if is_above(next, bar_of(best, base)) {
+    let next = bound_of(energy_in(codes, side, base, Window { from: u, to: e }));
+    if is_above(next, bar_of(best, Bound::Number(base))) {
         Some(Best {
             from: u,
             to: e,
@@ -98,12 +105,11 @@ fn with_window(
     }
 }
 
-/// Whether windows end on the day: it is the due day of a block that is not exact in the box, or the last day.
-fn is_end(codes: &Codes, part: &PlanBox, is_due: &[bool; 400], e: u16) -> bool
-    requires dues { (d : ℕ) → d < 400 → (slice_index_or is_due.now d false ≡ true) ↔ IsDue (choices codes.now) part.now d }
-    requires day { e < (choices codes.now).days }
-    ensures yes { result ≡ true → IsDue (choices codes.now) part.now e ⊎ (e + 1 ≡ (choices codes.now).days) }
-    ensures no { result ≡ false → IsDue (choices codes.now) part.now e ⊎ (e + 1 ≡ (choices codes.now).days) → ⊥ }
+/// Whether windows end on the day: it is marked as a due day, or it is the last day.
+fn is_end(codes: &Codes, is_due: &[bool; 400], e: u16) -> bool
+    requires { e < (choices codes.now).days }
+    ensures yes { result ≡ true → (slice_index_or is_due.now e false ≡ true) ⊎ (e + 1 ≡ (choices codes.now).days) }
+    ensures no { result ≡ false → (slice_index_or is_due.now e false ≡ true) ⊎ (e + 1 ≡ (choices codes.now).days) → ⊥ }
 {
     let days = codes.yard().days();
     if is_due[e as usize] {
@@ -115,41 +121,43 @@ fn is_end(codes: &Codes, part: &PlanBox, is_due: &[bool; 400], e: u16) -> bool
 /// The best window, with the candidates that begin on a day, after those that begin before it.
 fn with_day(
     codes: &Codes,
-    part: &PlanBox,
+    side: &Side<'_>,
     is_due: &[bool; 400],
-    base: Bound,
+    base: u32,
     best: Option<Best>,
     u: u16,
 ) -> Option<Best>
-    requires part { IsBox (choices codes.now) part.now }
-    requires base { IsBase (choices codes.now) part.now (number base) }
-    requires dues { (d : ℕ) → d < 400 → (slice_index_or is_due.now d false ≡ true) ↔ IsDue (choices codes.now) part.now d }
-    requires best { IsBestAmong (choices codes.now) part.now (Precedes u 0) best }
-    requires start { IsStart (choices codes.now) part.now u }
-    ensures { IsBestAmong (choices codes.now) part.now (Precedes (u + 1) 0) result }
+    requires side { AreExactPlaces codes.now side.now }
+    requires base { IsBase (choices codes.now) side.now.literals (Some base) }
+    requires few { base ≤ 400000 * 32 }
+    requires dues { (d : ℕ) → d < 400 → (slice_index_or is_due.now d false ≡ true) ↔ IsDue (choices codes.now) side.now.literals d }
+    requires best { IsBestAmong (choices codes.now) side.now.literals (Precedes u 0) best }
+    requires start { IsStart (choices codes.now) side.now.literals u }
+    ensures { IsBestAmong (choices codes.now) side.now.literals (Precedes (u + 1) 0) result }
 {
     let days = codes.yard().days();
     let mut best = best;
     for e in u..days {
-        if is_end(codes, part, is_due, e) {
-            best = with_window(codes, part, base, best, u, e);
+        if is_end(codes, is_due, e) {
+            best = with_window(codes, side, base, best, u, e);
         }
     }
     best
 }
 
 /// The best window of all candidates.
-fn best_of(codes: &Codes, part: &PlanBox, base: Bound) -> Option<Best>
-    requires part { IsBox (choices codes.now) part.now }
-    requires base { IsBase (choices codes.now) part.now (number base) }
-    ensures { IsBestAmong (choices codes.now) part.now AnyWindow result }
+fn best_of(codes: &Codes, side: &Side<'_>, base: u32) -> Option<Best>
+    requires side { AreExactPlaces codes.now side.now }
+    requires base { IsBase (choices codes.now) side.now.literals (Some base) }
+    requires few { base ≤ 400000 * 32 }
+    ensures { IsBestAmong (choices codes.now) side.now.literals AnyWindow result }
 {
-    let is_start = starts_of(codes, part);
-    let is_due = dues_of(codes, part);
+    let is_start = starts_of(codes, side);
+    let is_due = dues_of(codes, side);
     let mut best = None;
     for u in 0..codes.yard().days() {
         if is_start[u as usize] {
-            best = with_day(codes, part, &is_due, base, best, u);
+            best = with_day(codes, side, &is_due, base, best, u);
         }
     }
     best
@@ -162,7 +170,11 @@ pub fn best_window(codes: &Codes, part: &PlanBox) -> Option<(u16, u16)>
     requires { IsBox (choices codes.now) part.now }
     ensures { IsBestWindow (choices codes.now) part.now result }
 {
-    match best_of(codes, part, base(codes, part)) {
+    let Some(base) = sum(codes, part) else {
+        return None;
+    };
+    let side = Side::of(codes, part);
+    match best_of(codes, &side, base) {
         Some(best) => Some((best.from, best.to)),
         None => None,
     }

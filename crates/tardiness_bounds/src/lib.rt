@@ -22,6 +22,7 @@ mod next;
 mod obstacles;
 mod rest;
 mod rows;
+mod side;
 mod slot;
 mod standing;
 mod tables;

@@ -1,16 +1,17 @@
-//! What a window of days holds, and what a side puts into it.
-ghost use Rattle.std.specs.Prelude.{◌≡◌, ℕ, ◌<◌, ◌^◌, ◌↔◌, IsTrue, length, slice_get};
-ghost use Rattle.plan_rule.specs.Choices.{IsCode, blocks};
-ghost use Rattle.plan_rule.specs.Boxes.{IsBox};
+//! What a window of days holds, and what a box puts into it. The box is told by the placements of its exact codes.
+ghost use Rattle.std.specs.Prelude.{◌≡◌, ℕ, ◌<◌, ◌^◌, ◌↔◌, IsTrue, Some, length, slice_get};
+ghost use Rattle.code_table.specs.Placements.{placements};
+ghost use Rattle.plan_rule.specs.Choices.{blocks};
 ghost use Rattle.plan_rule.specs.Bounds.{presses, demand, used};
 ghost use Rattle.shape_exact.specs.Yards.{IsPiece};
 ghost use Rattle.plan_rule.specs.Yards.{choices, stood_by};
+ghost use Rattle.tardiness_bounds.specs.Sides.{AreExactPlaces, IsPlaced};
 ghost use Rattle.tardiness_bounds.specs.Windows.{HasRoom, plate_room, used_by, work_in};
 
 use crate::block::block_at;
-use crate::rest::exact_in;
-use code_table::Codes;
-use plan_rule::{PlanBox, block_count};
+use crate::side::Side;
+use code_table::{Codes, Placement};
+use plan_rule::block_count;
 use shape_exact::Fixed;
 
 /// The days from `from` to `to`, both included.
@@ -43,28 +44,30 @@ fn capacity(codes: &Codes, window: Window) -> u64
     sum
 }
 
-/// The cells of a block at a code, once for each open day that it spans in the window.
-fn taken(codes: &Codes, window: Window, block: u8, code: u32) -> u64
-    requires { IsCode (choices codes.now) block code }
-    ensures value { result ≡ (choices codes.now).taken window.from window.to block code }
+/// The cells of a block at a placement, once for each open day that it spans in the window.
+fn taken(codes: &Codes, window: Window, block: u8, place: Placement) -> u64
+    requires block { block < blocks (choices codes.now) }
+    requires place { IsPlaced codes.now block place }
+    ensures value { (code : ℕ) → slice_get (placements codes.now block) code ≡ Some place
+        → result ≡ (choices codes.now).taken window.from window.to block code }
     ensures few { result < 2 ^ 48 }
 {
-    let place = codes.place(block, code);
+    let _yard = codes.yard();
     let first = window.from.max(place.start);
     let last = window.to.min(place.end);
     let days = codes.calendar(place.plate).open_between(first, last);
     u64::from(days) * u64::from(codes.cells(block))
 }
 
-/// What the code takes in the window that the side sets the block to, if it does.
-fn used_by(codes: &Codes, side: &PlanBox, window: Window, block: u8) -> u64
-    requires side { IsBox (choices codes.now) side.now }
+/// What the exact code of a block takes in the window, where it has one.
+fn used_by(codes: &Codes, side: &Side<'_>, window: Window, block: u8) -> u64
+    requires side { AreExactPlaces codes.now side.now }
     requires block { block < blocks (choices codes.now) }
-    ensures value { result ≡ used_by (choices codes.now) side.now window.from window.to block }
+    ensures value { result ≡ used_by (choices codes.now) side.now.literals window.from window.to block }
     ensures few { result < 2 ^ 48 }
 {
-    match exact_in(side, block) {
-        Some(code) => taken(codes, window, block, code),
+    match side.place(block) {
+        Some(place) => taken(codes, window, block, place),
         None => 0,
     }
 }
@@ -94,9 +97,9 @@ fn standing(codes: &Codes, window: Window) -> u64
 }
 
 /// What the pieces and the exact codes take in the window.
-fn used(codes: &Codes, side: &PlanBox, window: Window) -> u64
-    requires { IsBox (choices codes.now) side.now }
-    ensures value { result ≡ used (choices codes.now) side.now window.from window.to }
+fn used(codes: &Codes, side: &Side<'_>, window: Window) -> u64
+    requires { AreExactPlaces codes.now side.now }
+    ensures value { result ≡ used (choices codes.now) side.now.literals window.from window.to }
     ensures few { result < 2 ^ 57 }
 {
     let mut sum = standing(codes, window);
@@ -106,12 +109,14 @@ fn used(codes: &Codes, side: &PlanBox, window: Window) -> u64
     sum
 }
 
-/// Whether the side sets the block to no code, and it is released in the window or later and due in it or earlier.
-pub(crate) fn presses(codes: &Codes, side: &PlanBox, window: Window, block: u8) -> bool
-    requires { block < blocks (choices codes.now) }
-    ensures { result ≡ presses (choices codes.now) side.now window.from window.to block }
+/// Whether the block has no exact code, and is released in the window or later and due in it or earlier.
+pub(crate) fn presses(codes: &Codes, side: &Side<'_>, window: Window, block: u8) -> bool
+    requires side { AreExactPlaces codes.now side.now }
+    requires block { block < blocks (choices codes.now) }
+    ensures { result ≡ presses (choices codes.now) side.now.literals window.from window.to block }
 {
-    if exact_in(side, block).is_some() {
+    let place = side.place(block);
+    if place.is_some() {
         return false;
     }
     let data = block_at(codes, block);
@@ -119,9 +124,10 @@ pub(crate) fn presses(codes: &Codes, side: &PlanBox, window: Window, block: u8) 
 }
 
 /// The cells of the block, once for each day of its duration, where it presses.
-fn work_in(codes: &Codes, side: &PlanBox, window: Window, block: u8) -> u64
-    requires { block < blocks (choices codes.now) }
-    ensures value { result ≡ work_in (choices codes.now) side.now window.from window.to block }
+fn work_in(codes: &Codes, side: &Side<'_>, window: Window, block: u8) -> u64
+    requires side { AreExactPlaces codes.now side.now }
+    requires block { block < blocks (choices codes.now) }
+    ensures value { result ≡ work_in (choices codes.now) side.now.literals window.from window.to block }
     ensures few { result < 2 ^ 48 }
 {
     if !presses(codes, side, window, block) {
@@ -132,8 +138,9 @@ fn work_in(codes: &Codes, side: &PlanBox, window: Window, block: u8) -> u64
 }
 
 /// The work of the blocks that press.
-fn demand(codes: &Codes, side: &PlanBox, window: Window) -> u64
-    ensures value { result ≡ demand (choices codes.now) side.now window.from window.to }
+fn demand(codes: &Codes, side: &Side<'_>, window: Window) -> u64
+    requires { AreExactPlaces codes.now side.now }
+    ensures value { result ≡ demand (choices codes.now) side.now.literals window.from window.to }
     ensures few { result < 2 ^ 56 }
 {
     let mut sum = 0;
@@ -144,9 +151,9 @@ fn demand(codes: &Codes, side: &PlanBox, window: Window) -> u64
 }
 
 /// Whether the window has room for the work of the blocks that press, beside what the pieces and the exact codes take.
-pub(crate) fn has_room(codes: &Codes, side: &PlanBox, window: Window) -> bool
-    requires { IsBox (choices codes.now) side.now }
-    ensures { IsTrue result ↔ HasRoom (choices codes.now) side.now window.from window.to }
+pub(crate) fn has_room(codes: &Codes, side: &Side<'_>, window: Window) -> bool
+    requires { AreExactPlaces codes.now side.now }
+    ensures { IsTrue result ↔ HasRoom (choices codes.now) side.now.literals window.from window.to }
 {
     demand(codes, side, window) + used(codes, side, window) <= capacity(codes, window)
 }

@@ -4,7 +4,8 @@ use Rattle.std.proofs.lemmas.List.{get_or-replicate, length-replicate, length-se
 use Rattle.plan_rule.specs.Choices.{blocks}
 use Rattle.plan_rule.specs.Yards.{choices}
 use Rattle.plan_rule.proofs.CountLaws.{block_exists}
-use Rattle.tardiness_bounds.proofs.MarkLaws.{HasBlock, mark_more, mark_none, mark_past, none_told, some_told}
+use Rattle.tardiness_bounds.proofs.MarkLaws.{HasBlock, mark_more, mark_none, mark_past}
+use Rattle.tardiness_bounds.proofs.SideLaws.{has_entry, no_exact, some_exact}
 use Rattle.tardiness_bounds.proofs.WindowLaws.{due_is}
 use Rattle.tardiness_bounds.proofs.best.dues_of.Goals as goal
 use Rattle.tardiness_bounds.proofs.best.dues_of.Goals.{then-is_none, else-is_none}
@@ -12,7 +13,7 @@ use Rattle.tardiness_bounds.proofs.best.dues_of.Goals.{then-is_none, else-is_non
 pub loop-block-init : goal.loop-block-init
 loop-block-init c = record {
   len = length-replicate 400 false;
-  marks = mark_none (choices c.args.codes.now) c.args.part.now (choices c.args.codes.now).due (replicate 400 false) (λ d l. get_or-replicate 400 d false false l);
+  marks = mark_none (choices c.args.codes.now) c.args.side.now.literals (choices c.args.codes.now).due (replicate 400 false) (λ d l. get_or-replicate 400 d false false l);
 }
 
 pub block_at-requires : goal.block_at-requires
@@ -20,27 +21,30 @@ block_at-requires c = block_exists c.args.codes.now c.loop-block.block (let v = 
 
 pub loop-block-preserved : goal.loop-block-preserved
 loop-block-preserved c =
-    let P : List Bool → Type 0 = λ marks. (d : ℕ) → d < 400 → (get_or marks d false ≡ true) ↔ HasBlock (choices c.args.codes.now) c.args.part.now (choices c.args.codes.now).due (c.loop-block.block + 1) d in
+    let P : List Bool → Type 0 = λ marks. (d : ℕ) → d < 400 → (get_or marks d false ≡ true) ↔ HasBlock (choices c.args.codes.now) c.args.side.now.literals (choices c.args.codes.now).due (c.loop-block.block + 1) d in
     elim c.if-is_none.branch [
       | then-is_none w ↦
           let block = w.block_at.ensures.limits in
           let small : w.block_at.result.now.due < 400 = (let r = block.due in omega arith) in record {
             len = ap length w.is_due-is ∙ length-set c.loop-block.is_due w.block_at.result.now.due true ∙ c.loop-block.invariant.len;
             marks = subst P (sym w.is_due-is)
-                (mark_more (choices c.args.codes.now) c.args.part.now (choices c.args.codes.now).due c.loop-block.block w.block_at.result.now.due c.loop-block.is_due
-                (sym c.exact_in.ensures ∙ none_told c.exact_in.result (c.is_none.ensures ∙ ap not w.if-is_none.true))
+                (mark_more (choices c.args.codes.now) c.args.side.now.literals (choices c.args.codes.now).due c.loop-block.block w.block_at.result.now.due c.loop-block.is_due
+                (no_exact c.args.codes.now c.args.side.now c.loop-block.block c.place-place.result c.requires c.place-place.ensures (c.is_none.ensures ∙ ap not w.if-is_none.true))
                 (due_is c.args.codes.now c.loop-block.block w.block_at.result.now w.block_at.ensures.value) c.loop-block.invariant.len small c.loop-block.invariant.marks);
           }
       | else-is_none w ↦
-          let (code, is) = some_told c.exact_in.result (c.is_none.ensures ∙ ap not w.if-is_none.false) in record {
+          let (code, is) = some_exact c.args.codes.now c.args.side.now c.loop-block.block c.place-place.result c.requires c.place-place.ensures (c.is_none.ensures ∙ ap not w.if-is_none.false) in record {
             len = ap length w.is_due-is ∙ c.loop-block.invariant.len;
             marks = subst P (sym w.is_due-is)
-                (mark_past (choices c.args.codes.now) c.args.part.now (choices c.args.codes.now).due c.loop-block.block code c.loop-block.is_due
-                (sym c.exact_in.ensures ∙ is) c.loop-block.invariant.marks);
+                (mark_past (choices c.args.codes.now) c.args.side.now.literals (choices c.args.codes.now).due c.loop-block.block code c.loop-block.is_due
+                is c.loop-block.invariant.marks);
           }
     ]
 
 pub returns : goal.returns
 returns c =
     let e : c.loop-block.block ≡ blocks (choices c.args.codes.now) = (let v = c.block_count-block-end.ensures.value in omega arith) in
-    subst (λ n. (d : ℕ) → d < 400 → (get_or c.loop-block.is_due d false ≡ true) ↔ HasBlock (choices c.args.codes.now) c.args.part.now (choices c.args.codes.now).due n d) e c.loop-block.invariant.marks
+    subst (λ n. (d : ℕ) → d < 400 → (get_or c.loop-block.is_due d false ≡ true) ↔ HasBlock (choices c.args.codes.now) c.args.side.now.literals (choices c.args.codes.now).due n d) e c.loop-block.invariant.marks
+
+pub place-place-requires : goal.place-place-requires
+place-place-requires c = has_entry c.args.codes.now c.args.side.now c.loop-block.block c.requires (let v = c.block_count-block-end.ensures.value in omega arith)

@@ -7,6 +7,6 @@ use Rattle.tardiness_bounds.proofs.window.used.Given as goal
 -- the sum so far, and how large it is at most
 abbrev pub invariant-loop-block : goal.invariant-loop-block
 invariant-loop-block l = record {
-  value : l.sum ≡ (choices l.codes).standing l.window.from l.window.to + sum_below l.block (used_by (choices l.codes) l.side l.window.from l.window.to);
+  value : l.sum ≡ (choices l.codes).standing l.window.from l.window.to + sum_below l.block (used_by (choices l.codes) l.side.literals l.window.from l.window.to);
   limit : l.sum ≤ 2 ^ 55 + 2 ^ 48 * l.block;
 }
