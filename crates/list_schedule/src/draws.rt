@@ -1,16 +1,18 @@
 //! Numbers that are drawn by a linear congruence.
 ghost use Rattle.std.specs.Prelude.{◌<◌};
 
-/// A linear congruence modulo 2^64, with the factor and the step of Knuth's MMIX. It always begins with the same state.
+/// A linear congruence modulo 2^64, with the factor and the step of Knuth's MMIX. A seed always begins with the same state.
 #[derive(Drop)]
 pub struct Draws {
     state: u64,
 }
 
 impl Draws {
-    /// The first state.
-    pub fn new() -> Draws {
-        Draws { state: 12345 }
+    /// The first state of a seed.
+    pub fn of_seed(seed: u32) -> Draws {
+        Draws {
+            state: 12345 + u64::from(seed),
+        }
     }
 
     /// A number below `n`, by the high bits of the next state.

@@ -42,6 +42,34 @@ fn follows(codes: &Codes, list: &[u32], front: &[u32], lo: u32, hi: u32) -> bool
     front.len() == list.len() || lo <= list[front.len()] && list[front.len()] < hi
 }
 
+/// The plan of these codes, where it is feasible.
+fn feasible(alloc: Global, codes: &Codes, list: &[u32]) -> Result<Option<Plan>, NoMemory>
+    requires { IsPlan (choices codes.now) list.now }
+    ensures { IfOk result (λ o. IfSome o (λ p. IsFeasible (choices codes.now) p × (p ≡ list.now))) }
+{
+    let plan = Plan::new(alloc, codes, list)?;
+    if let Some(_clash) = first_clash(codes, &plan) {
+        return Ok(None);
+    }
+    if let Some(_met) = first_met(codes, &plan) {
+        return Ok(None);
+    }
+    Ok(Some(plan))
+}
+
+/// The plan of these codes, where it is a feasible plan of the yard.
+pub fn feasible_plan(alloc: Global, codes: &Codes, list: &[u32]) -> Result<Option<Plan>, NoMemory>
+    ensures { IfOk result (λ o. IfSome o (λ p. IsFeasible (choices codes.now) p)) }
+{
+    if !is_plan(codes, list) {
+        return Ok(None);
+    }
+    let Some(plan) = feasible(alloc, codes, list)? else {
+        return Ok(None);
+    };
+    Ok(Some(plan))
+}
+
 /// The plan of these codes, where it is a feasible plan of the region.
 pub fn guarded(
     alloc: Global,
@@ -58,12 +86,8 @@ pub fn guarded(
     if !is_plan(codes, list) || !follows(codes, list, front, lo, hi) {
         return Ok(None);
     }
-    let plan = Plan::new(alloc, codes, list)?;
-    if let Some(_clash) = first_clash(codes, &plan) {
+    let Some(plan) = feasible(alloc, codes, list)? else {
         return Ok(None);
-    }
-    if let Some(_met) = first_met(codes, &plan) {
-        return Ok(None);
-    }
+    };
     Ok(Some(plan))
 }

@@ -9,4 +9,4 @@ mod orders;
 mod schedule;
 mod starting;
 
-pub use starting::start_plan;
+pub use starting::{start_plan, yard_plan};

@@ -1,12 +1,12 @@
 //! The best of some list schedules of a region.
-ghost use Rattle.std.specs.Prelude.{◌≡◌, IfOk, IfSome};
+ghost use Rattle.std.specs.Prelude.{◌≡◌, ◌≤◌, length, IfOk, IfSome};
 ghost use Rattle.plan_rule.specs.Plans.{IsFeasible};
 ghost use Rattle.plan_rule.specs.Paths.{IsInRegion};
 ghost use Rattle.plan_rule.specs.Regions.{IsRegionPart};
 ghost use Rattle.plan_rule.specs.Yards.{choices};
 
 use crate::draws::Draws;
-use crate::guard::guarded;
+use crate::guard::{feasible_plan, guarded};
 use crate::orders::{Rule, moved, ordered};
 use crate::schedule::{Schedule, clear, put_all};
 use code_table::Codes;
@@ -77,6 +77,42 @@ fn taken(hand: Option<Hand>, made: Schedule, order: Vec<u8>) -> Hand {
     }
 }
 
+/// The best of `tries` list schedules of a region whose cost is at most `most`; the seed draws the moves of orders. None
+/// where none of them costs so little.
+fn best_schedule(
+    alloc: Global,
+    codes: &Codes,
+    tables: &YardTables<'_>,
+    front: &[u32],
+    range: Literal,
+    most: u32,
+    tries: u32,
+    seed: u32,
+) -> Result<Option<Schedule>, NoMemory>
+    requires tables { tables.now.yard ≡ codes.now }
+    requires front { length front.now ≤ 32 }
+{
+    let first = front.len() as u8;
+    let mut frontier = Frontier::new(alloc, tables)?;
+    let mut draws = Draws::of_seed(seed);
+    let mut hand = None;
+    let mut most = most;
+    for attempt in 0..tries {
+        let order = next_order(alloc, codes, first, attempt, &hand, &mut draws)?;
+        clear(&mut frontier);
+        if let Some(made) = put_all(&mut frontier, front, order.as_slice(), range, most) {
+            if made.cost <= most {
+                most = made.cost;
+                hand = Some(taken(hand, made, order));
+            }
+        }
+    }
+    match hand {
+        Some(hand) => Ok(Some(hand.best)),
+        None => Ok(None),
+    }
+}
+
 /// A feasible plan of a region to begin a search with: the best of `tries` list schedules whose cost is at most `most`.
 /// None where none of them makes such a plan.
 pub fn start_plan(
@@ -97,29 +133,43 @@ pub fn start_plan(
     if front.len() > 32 {
         return Ok(None);
     }
-    let first = front.len() as u8;
     let range = Literal {
-        block: first,
+        block: front.len() as u8,
         lo,
         hi,
     };
-    let mut frontier = Frontier::new(alloc, tables)?;
-    let mut draws = Draws::new();
-    let mut hand = None;
-    let mut most = most;
-    for attempt in 0..tries {
-        let order = next_order(alloc, codes, first, attempt, &hand, &mut draws)?;
-        clear(&mut frontier);
-        if let Some(made) = put_all(&mut frontier, front, order.as_slice(), range, most) {
-            if made.cost <= most {
-                most = made.cost;
-                hand = Some(taken(hand, made, order));
-            }
-        }
-    }
-    let Some(hand) = hand else {
+    let found = best_schedule(alloc, codes, tables, front, range, most, tries, 0)?;
+    let Some(best) = found else {
         return Ok(None);
     };
     let count = usize::from(block_count(codes));
-    guarded(alloc, codes, job, front, lo, hi, &hand.best.codes[..count])
+    guarded(alloc, codes, job, front, lo, hi, &best.codes[..count])
+}
+
+/// No block has this number.
+const NO_BLOCK: u8 = 32;
+
+/// A feasible plan of the yard to begin with: the best of `tries` list schedules, of which the seed draws the moves. None
+/// where none of them makes a plan.
+pub fn yard_plan(
+    alloc: Global,
+    codes: &Codes,
+    tables: &YardTables<'_>,
+    tries: u32,
+    seed: u32,
+) -> Result<Option<Plan>, NoMemory>
+    requires { tables.now.yard ≡ codes.now }
+    ensures { IfOk result (λ o. IfSome o (λ p. IsFeasible (choices codes.now) p)) }
+{
+    let all = Literal {
+        block: NO_BLOCK,
+        lo: 0,
+        hi: 0,
+    };
+    let found = best_schedule(alloc, codes, tables, &[], all, u32::MAX, tries, seed)?;
+    let Some(best) = found else {
+        return Ok(None);
+    };
+    let count = usize::from(block_count(codes));
+    feasible_plan(alloc, codes, &best.codes[..count])
 }
