@@ -126,7 +126,7 @@ pub record AreTurned (yard : PlainYard) (f : Exact) (b : ℕ) (p : Placement) (f
   pub second_is : (two : Block) → slice_get yard.blocks b ≡ Some two → second ≡ turned p.turn two.shape
 
 -- placements that may clash, by their footprints
-met_by_places : (yard : PlainYard) (f : Exact) (b : ℕ) (p : Placement) (first second : List Point) (apart : Bool)
+pub met_by_places : (yard : PlainYard) (f : Exact) (b : ℕ) (p : Placement) (first second : List Point) (apart : Bool)
     → AreTurned yard f b p first second → MayClash f.place p → (IsTrue apart ↔ AreApart first (place_of f.place) second (place_of p))
     → IsTrue (not apart) ↔ ClashesAt yard f b p
 met_by_places yard f b p first second true s may told = (

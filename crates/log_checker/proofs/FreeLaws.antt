@@ -11,7 +11,7 @@ use Rattle.plan_rule.specs.Boxes.{exact_code}
 use Rattle.plan_rule.specs.Bounds.{MayFit}
 use Rattle.plan_rule.specs.Yards.{choices}
 use Rattle.log_checker.specs.declared.exact.Exact.{Exact}
-use Rattle.log_checker.specs.ExactBlocks.{AreExact, ClashesWithOne}
+use Rattle.log_checker.specs.ExactBlocks.{AreExact}
 use Rattle.log_checker.specs.Walks.{IsHindered}
 use Rattle.log_checker.specs.Leasts.{IsClear, IsLeastClear, IsLeastFit}
 use Rattle.log_checker.proofs.ExactLaws.{met_or_clash}

@@ -9,6 +9,7 @@ pub mod FreeLaws
 pub mod LeastLaws
 pub mod NearLaws
 pub mod NearPieceLaws
+pub mod OffsetLaws
 pub mod OnwardLaws
 pub mod RestLaws
 pub mod SpanLaws

@@ -3,10 +3,9 @@ use Rattle.std.proofs.Common.{◌≡◌, ℕ, ◌<◌, List, Option, Some, None,
 use Rattle.std.specs.Prelude.{slice_get, take, All, ◌↔◌, Result, Ok, Err, IfOk}
 use Rattle.std.proofs.lemmas.List.Elements.{All-contains, All-nil}
 use Rattle.std.proofs.lemmas.Option.{same_Some, slice_get_within, get_or_from_slice_get}
-use Rattle.plan_rule.specs.Choices.{Choices, MeetsSome, blocks}
-use Rattle.plan_rule.specs.Plans.{code_of, HasNoClash, IsAnswer, IsBest, IsFeasible, IsPlan, MeetsNone}
+use Rattle.plan_rule.specs.Choices.{Choices, blocks}
+use Rattle.plan_rule.specs.Plans.{HasNoClash, IsAnswer, IsBest, IsFeasible, IsPlan, MeetsNone}
 use Rattle.plan_rule.specs.Pieces.{IsFirstMeeting}
-use Rattle.plan_rule.proofs.CountLaws.{blocks-length}
 use Rattle.plan_rule.specs.Yards.{choices}
 use Rattle.shape_exact.specs.Yards.{PlainYard, IsYard}
 use Rattle.shape_exact.specs.declared.memory.NoMemory.{NoMemory}

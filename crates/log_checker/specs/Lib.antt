@@ -5,6 +5,7 @@ pub mod Forms
 pub mod Leasts
 pub mod Lines
 pub mod NearPieces
+pub mod Offsets
 pub mod Spans
 pub mod Ties
 pub mod Verdicts

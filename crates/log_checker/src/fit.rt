@@ -7,11 +7,13 @@ ghost use Rattle.plan_rule.specs.Yards.{choices};
 ghost use Rattle.log_checker.specs.Claims.{IsClaim, plan_of};
 ghost use Rattle.log_checker.specs.ExactBlocks.{AreExact, IsStanding};
 ghost use Rattle.log_checker.specs.Leasts.{IsFitUpTo, IsLeastFit};
+ghost use Rattle.log_checker.specs.Offsets.{AreTold};
 
 use crate::base::base;
 use crate::claim::Claim;
 use crate::exact::{Exact, exact_of};
 use crate::free::least_free;
+use crate::offset::Offsets;
 use crate::refute::fault;
 use crate::rest::{exact_in, least_in};
 use code_table::Codes;
@@ -25,25 +27,36 @@ fn up_to(cost: u32, limit: u32) -> Option<u32>
 }
 
 /// The least own cost of the block's codes that fit the side, where it is at most the limit.
-fn least_fit(codes: &Codes, side: &PlanBox, exacts: &[Exact], block: u8, limit: u32) -> Option<u32>
+fn least_fit(
+    codes: &Codes,
+    offsets: &mut Offsets,
+    side: &PlanBox,
+    exacts: &[Exact],
+    block: u8,
+    limit: u32,
+) -> Option<u32>
+    requires told { AreTold codes.now offsets.old }
     requires side { IsBox (choices codes.now) side.now }
     requires exacts { AreExact codes.now side.now exacts.now }
     requires few { length exacts.now ≤ 32 }
     requires standing { All (IsStanding codes.now) exacts.now }
     requires block { block < blocks (choices codes.now) }
-    ensures { IsLeastFit (choices codes.now) side.now block limit result }
+    ensures value { IsLeastFit (choices codes.now) side.now block limit result }
+    ensures told { AreTold codes.now offsets.new }
 {
     match exact_in(side, block) {
         Some(code) => up_to(codes.own_cost(block, code), limit),
-        None => least_free(codes, exacts, block, limit),
+        None => least_free(codes, offsets, exacts, block, limit),
     }
 }
 
 /// The fit of the side, where it is at most the limit; None where it is above, or Never. A block's least cost is not
 /// sought above what the limit leaves beside the costs found so far and the least own costs of the blocks to come.
-fn fit(codes: &Codes, side: &PlanBox, limit: u32) -> Option<u32>
-    requires { IsBox (choices codes.now) side.now }
-    ensures { IsFitUpTo (choices codes.now) side.now limit result }
+fn fit(codes: &Codes, offsets: &mut Offsets, side: &PlanBox, limit: u32) -> Option<u32>
+    requires told { AreTold codes.now offsets.old }
+    requires side { IsBox (choices codes.now) side.now }
+    ensures value { IsFitUpTo (choices codes.now) side.now limit result }
+    ensures told { AreTold codes.now offsets.new }
 {
     let mut rest = base(codes, side)?;
     let exacts = exact_of(codes, side);
@@ -52,7 +65,7 @@ fn fit(codes: &Codes, side: &PlanBox, limit: u32) -> Option<u32>
     for block in 0..block_count(codes) {
         rest -= least_in(codes, side, block)?;
         let left = limit.checked_sub(sum + rest)?;
-        sum += least_fit(codes, side, exacts, block, left)?;
+        sum += least_fit(codes, offsets, side, exacts, block, left)?;
     }
     Some(sum)
 }
@@ -68,17 +81,24 @@ fn greatest(claim: Option<Claim<'_>>) -> u32
 }
 
 /// The fit of the side, where it does not refute the side; None where it does.
-pub(crate) fn fit_fault(codes: &Codes, claim: Option<Claim<'_>>, side: &PlanBox) -> Option<u32>
+pub(crate) fn fit_fault(
+    codes: &Codes,
+    offsets: &mut Offsets,
+    claim: Option<Claim<'_>>,
+    side: &PlanBox,
+) -> Option<u32>
+    requires told { AreTold codes.now offsets.old }
     requires claim { IsClaim (choices codes.now) claim }
     requires side { IsBox (choices codes.now) side.now }
-    ensures { MatchOption result
+    ensures value { MatchOption result
         ((k : Option ℕ) × IsFit (choices codes.now) side.now k
         × Refutes (choices codes.now) (plan_of claim.entry) side.now k)
         (λ n. IsFit (choices codes.now) side.now (Some n)
         × (Refutes (choices codes.now) (plan_of claim.entry) side.now (Some n) → ⊥)) }
+    ensures told { AreTold codes.now offsets.new }
 {
     let _yard = codes.yard();
-    let Some(fit) = fit(codes, side, greatest(claim)) else {
+    let Some(fit) = fit(codes, offsets, side, greatest(claim)) else {
         return None;
     };
     fault(codes, claim, side, Some(fit))

@@ -6,10 +6,12 @@ ghost use Rattle.plan_rule.specs.Choices.{blocks};
 ghost use Rattle.plan_rule.specs.Yards.{choices};
 ghost use Rattle.log_checker.specs.ExactBlocks.{IsStanding};
 ghost use Rattle.log_checker.specs.Leasts.{IsLeastClear, IsLeastClearBelow, is_better};
+ghost use Rattle.log_checker.specs.Offsets.{AreTold};
 
 use crate::block::cost_at;
 use crate::cut::least_from;
 use crate::exact::Exact;
+use crate::offset::Offsets;
 use crate::walk::Walk;
 use code_table::{Codes, Stretch};
 
@@ -27,6 +29,7 @@ fn is_better(cost: u32, best: Option<u32>, limit: u32) -> bool
 /// from `from` on.
 fn with_stretch(
     codes: &Codes,
+    offsets: &mut Offsets,
     exacts: &[Exact],
     block: u8,
     stretch: Stretch,
@@ -34,6 +37,7 @@ fn with_stretch(
     limit: u32,
     best: Option<u32>,
 ) -> Option<u32>
+    requires told { AreTold codes.now offsets.old }
     requires block { block < blocks (choices codes.now) }
     requires stretch { IsStretch (placements codes.now block) stretch }
     requires end { stretch.place.end < codes.now.days }
@@ -42,7 +46,8 @@ fn with_stretch(
     requires few { length exacts.now ≤ 32 }
     requires standing { All (IsStanding codes.now) exacts.now }
     requires best { IsLeastClearBelow codes.now exacts.now block from limit best }
-    ensures { IsLeastClearBelow codes.now exacts.now block stretch.hi limit result }
+    ensures value { IsLeastClearBelow codes.now exacts.now block stretch.hi limit result }
+    ensures told { AreTold codes.now offsets.new }
 {
     let cost = cost_at(codes, block, stretch.place.end);
     if !is_better(cost, best, limit) {
@@ -52,7 +57,7 @@ fn with_stretch(
         passed: 0,
         code: from,
     };
-    let found = start.to_clear(codes, block, stretch, stretch.hi, exacts, &[]);
+    let found = start.to_clear(codes, offsets, block, stretch, stretch.hi, exacts, &[]);
     if found.code < stretch.hi {
         Some(cost)
     } else {
@@ -65,11 +70,19 @@ fn with_stretch(
 /// no further than to the first one. The walk ends where the block's least own cost, or the start that it has come to,
 /// shows that no later code is better.
 #[tactic(auto, using(plan_rule::proofs::CountLaws::counts))]
-pub(crate) fn least_free(codes: &Codes, exacts: &[Exact], block: u8, limit: u32) -> Option<u32>
+pub(crate) fn least_free(
+    codes: &Codes,
+    offsets: &mut Offsets,
+    exacts: &[Exact],
+    block: u8,
+    limit: u32,
+) -> Option<u32>
+    requires told { AreTold codes.now offsets.old }
     requires block { block < blocks (choices codes.now) }
     requires few { length exacts.now ≤ 32 }
     requires standing { All (IsStanding codes.now) exacts.now }
-    ensures { IsLeastClear codes.now exacts.now block limit result }
+    ensures value { IsLeastClear codes.now exacts.now block limit result }
+    ensures told { AreTold codes.now offsets.new }
 {
     codes.codes_ascend(block);
     let least = codes.least_cost(block)?;
@@ -82,7 +95,7 @@ pub(crate) fn least_free(codes: &Codes, exacts: &[Exact], block: u8, limit: u32)
         if !is_better(floor, best, limit) {
             return best;
         }
-        best = with_stretch(codes, exacts, block, stretch, code, limit, best);
+        best = with_stretch(codes, offsets, exacts, block, stretch, code, limit, best);
         code = stretch.hi;
     }
     best

@@ -21,6 +21,7 @@ mod form;
 mod free;
 mod judge;
 mod near;
+mod offset;
 mod refute;
 mod rest;
 mod span;

@@ -1,9 +1,11 @@
 //! What stands near a placement: the exact blocks and the fixed pieces that are on its plate on some of its days.
 ghost use Rattle.std.specs.Prelude.{◌≡◌, ℕ, ◌<◌, ◌≤◌, ◌↔◌, ◌⊎◌, All, IsTrue, length};
 ghost use Rattle.log_checker.specs.ExactBlocks.{ClashesWithOne, IsNear, IsStanding};
+ghost use Rattle.log_checker.specs.Offsets.{AreTold};
 ghost use Rattle.log_checker.specs.NearPieces.{AreNear, MeetsAt, MeetsOne};
 
 use crate::exact::{Exact, clashes_with_one};
+use crate::offset::Offsets;
 use arrayvec::ArrayVec;
 use code_table::{Codes, Placement};
 use plan_rule::{may_clash, may_meet_piece, meets_piece};
@@ -90,17 +92,25 @@ impl Near {
 
     /// Whether something hinders a block at a placement: an exact block that clashes with it there, or a piece that it
     /// meets.
-    pub(crate) fn hinders(&self, codes: &Codes, block: u8, place: Placement) -> bool
+    pub(crate) fn hinders(
+        &self,
+        codes: &Codes,
+        offsets: &mut Offsets,
+        block: u8,
+        place: Placement,
+    ) -> bool
+        requires told { AreTold codes.now offsets.old }
         requires standing { All (IsStanding codes.now) self.now.exacts.items }
         requires pieces { All (λ i. i < length codes.now.fixed) self.now.pieces.items }
         requires block { block < length codes.now.blocks }
         requires turn { place.turn < 4 }
         requires x { place.x ≤ 400 }
         requires y { place.y ≤ 400 }
-        ensures { IsTrue result
+        ensures value { IsTrue result
             ↔ (ClashesWithOne codes.now self.now.exacts.items block place ⊎ MeetsOne codes.now self.now.pieces.items block place) }
+        ensures told { AreTold codes.now offsets.new }
     {
-        clashes_with_one(codes, self.exacts.as_slice(), block, place)
+        clashes_with_one(codes, offsets, self.exacts.as_slice(), block, place)
             || meets_one(codes, self.pieces.as_slice(), block, place)
     }
 }

@@ -4,6 +4,7 @@ ghost use Rattle.plan_rule.specs.Yards.{choices};
 ghost use Rattle.refutation_log.specs.Steps.{IsStep};
 ghost use Rattle.log_checker.specs.Claims.{IsClaim, plan_of};
 ghost use Rattle.log_checker.specs.Forms.{HasForm};
+ghost use Rattle.log_checker.specs.Offsets.{AreTold};
 ghost use Rattle.log_checker.specs.Verdicts.{AreStepsBefore, IsFault, IsFirst, IsFirstFault};
 
 use crate::Refused;
@@ -12,6 +13,7 @@ use crate::claim::Claim;
 use crate::energy::energy_fault;
 use crate::fit::fit_fault;
 use crate::form::has_form;
+use crate::offset::Offsets;
 use code_table::Codes;
 use refutation_log::{Cites, Record};
 use shape_exact::NoMemory;
@@ -33,16 +35,19 @@ fn first_late(cites: &Cites, step: u64) -> Option<u64>
 fn fault_of(
     alloc: Global,
     codes: &Codes,
+    offsets: &mut Offsets,
     claim: Option<Claim<'_>>,
     earlier: &[Record],
     entry: &Record,
 ) -> Result<Option<Refused>, NoMemory>
+    requires told { AreTold codes.now offsets.old }
     requires claim { IsClaim (choices codes.now) claim }
     requires earlier { All (HasForm (choices codes.now)) earlier.now }
     requires few { length earlier.now < 10 ^ 18 }
-    ensures { IfOk result (λ found. MatchOption found
+    ensures value { IfOk result (λ found. MatchOption found
         (IsStep (choices codes.now) (plan_of claim.entry) earlier.now entry.now)
         (IsFault (choices codes.now) (plan_of claim.entry) earlier.now entry.now)) }
+    ensures told { AreTold codes.now offsets.new }
 {
     let step = earlier.len() as u64;
     if !has_form(codes, entry) {
@@ -59,12 +64,14 @@ fn fault_of(
             if let Some(cite) = first_late(cites, step) {
                 return Ok(Some(Refused::BadCite(step, cite)));
             }
-            match branch_fault(alloc, codes, claim, earlier, *block, *lo, *hi, side, cites)? {
+            match branch_fault(
+                alloc, codes, offsets, claim, earlier, *block, *lo, *hi, side, cites,
+            )? {
                 Some(code) => Ok(Some(Refused::Uncovered(step, code))),
                 None => Ok(None),
             }
         }
-        Record::Fit { side } => match fit_fault(codes, claim, side) {
+        Record::Fit { side } => match fit_fault(codes, offsets, claim, side) {
             Some(bound) => Ok(Some(Refused::BoundLow(step, bound))),
             None => Ok(None),
         },
@@ -90,8 +97,16 @@ pub(crate) fn first_fault(
         (AreStepsBefore (choices codes.now) (plan_of claim.entry) records.now (length records.now))
         (IsFirstFault (choices codes.now) (plan_of claim.entry) records.now)) }
 {
+    let mut offsets = Offsets::new(alloc)?;
     for i in 0..records.len() {
-        if let Some(refused) = fault_of(alloc, codes, claim, &records[..i], &records[i])? {
+        if let Some(refused) = fault_of(
+            alloc,
+            codes,
+            &mut offsets,
+            claim,
+            &records[..i],
+            &records[i],
+        )? {
             return Ok(Some(refused));
         }
     }

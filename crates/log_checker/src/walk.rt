@@ -6,11 +6,13 @@ ghost use Rattle.code_table.specs.Stretches.{IsStretch};
 ghost use Rattle.plan_rule.specs.Choices.{blocks};
 ghost use Rattle.plan_rule.specs.Yards.{choices};
 ghost use Rattle.log_checker.specs.ExactBlocks.{IsStanding};
+ghost use Rattle.log_checker.specs.Offsets.{AreTold};
 ghost use Rattle.log_checker.specs.Spans.{InOne};
 ghost use Rattle.log_checker.specs.Walks.{ArePassed, IsHindered};
 
 use crate::exact::Exact;
 use crate::near::Near;
+use crate::offset::Offsets;
 use crate::span::Span;
 use code_table::{Codes, Stretch};
 
@@ -48,12 +50,14 @@ impl Walk {
     pub(crate) fn to_clear(
         self,
         codes: &Codes,
+        offsets: &mut Offsets,
         block: u8,
         stretch: Stretch,
         to: u32,
         exacts: &[Exact],
         spans: &[Span],
     ) -> Walk
+        requires told { AreTold codes.now offsets.old }
         requires block { block < length codes.now.blocks }
         requires stretch { IsStretch (placements codes.now block) stretch }
         requires from { stretch.lo ≤ self.code }
@@ -71,6 +75,7 @@ impl Walk {
             → InOne spans.now k ⊎ IsHindered codes.now exacts.now block k }
         ensures left { InOne spans.now result.code → ⊥ }
         ensures clear { result.code < to → IsHindered codes.now exacts.now block result.code → ⊥ }
+        ensures told { AreTold codes.now offsets.new }
     {
         let mut walk = self;
         if walk.code >= to {
@@ -79,7 +84,7 @@ impl Walk {
         let near = Near::of(codes, exacts, stretch.place);
         while walk.code < to {
             let place = codes.place_in(block, stretch, walk.code);
-            if !near.hinders(codes, block, place) {
+            if !near.hinders(codes, offsets, block, place) {
                 return walk;
             }
             walk = walk.on_from(walk.code + 1, spans);

@@ -6,6 +6,7 @@ ghost use Rattle.log_checker.specs.Forms.{HasForm};
 
 use super::branch_fault;
 use crate::form::has_form;
+use crate::offset::Offsets;
 use crate::tests::yards::{are_few, has_block};
 use code_table::Codes;
 use refutation_log::{Record, read_log};
@@ -107,7 +108,19 @@ fn left(
             cites,
         } => {
             assert!(rt; are_below(cites.list(), earlier.len()));
-            branch_fault(alloc, codes, None, earlier, *block, *lo, *hi, side, cites)
+            let mut offsets = Offsets::new(alloc)?;
+            branch_fault(
+                alloc,
+                codes,
+                &mut offsets,
+                None,
+                earlier,
+                *block,
+                *lo,
+                *hi,
+                side,
+                cites,
+            )
         }
         Record::Fit { .. } => Ok(None),
         Record::Energy { .. } => Ok(None),

@@ -15,14 +15,14 @@ use Rattle.log_checker.proofs.fit.fit.Goals as goal
 none : (c : Choices) (side : List Literal) (limit : ℕ) (o : Option ℕ) → o ≡ None → IsFitUpTo c side limit None → IsFitUpTo c side limit o
 none c side limit o e h = subst (IsFitUpTo c side limit) (sym e) h
 
-pub returns-in_err-rest : goal.returns-in_err-rest
-returns-in_err-rest c =
+pub returns-in_err-rest-clause-value : goal.returns-in_err-rest-clause-value
+returns-in_err-rest-clause-value c =
     let (b, l, lacks) = c.in_err-rest.ensures.base in
     none (choices c.args.codes.now) c.args.side.now c.args.limit _ c.from_residual.ensures
     (never_fits (choices c.args.codes.now) c.args.side.now c.args.limit b l lacks)
 
-pub returns-in_err-rest-2 : goal.returns-in_err-rest-2
-returns-in_err-rest-2 c =
+pub returns-in_err-rest-2-clause-value : goal.returns-in_err-rest-2-clause-value
+returns-in_err-rest-2-clause-value c =
     none (choices c.args.codes.now) c.args.side.now c.args.limit _ c.from_residual-in_err-rest-2.ensures
     (never_fits (choices c.args.codes.now) c.args.side.now c.args.limit c.loop-block.block (omega arith) c.in_err-rest-2.ensures.least)
 
@@ -31,9 +31,9 @@ overflow_sub-rest c =
     rest_has (choices c.args.codes.now) c.args.side.now c.loop-block.block c.loop-block.rest c.in_ok-rest-2.field-0 (omega arith)
     c.loop-block.invariant.rest c.in_ok-rest-2.ensures.least
 
-pub returns-in_err-left : goal.returns-in_err-left
-returns-in_err-left c =
-    let (k, is) = fit_exists (choices c.args.codes.now) c.args.side.now (told c.args.codes.now c.block_count-block-end.ensures.limits) c.requires in
+pub returns-in_err-left-clause-value : goal.returns-in_err-left-clause-value
+returns-in_err-left-clause-value c =
+    let (k, is) = fit_exists (choices c.args.codes.now) c.args.side.now (told c.args.codes.now c.block_count-block-end.ensures.limits) c.requires.side in
     let above : c.args.limit < c.loop-block.sum + c.loop-block.rest =
     elim (cases_lt c.args.limit (c.loop-block.sum + (c.loop-block.rest - c.in_ok-rest-2.field-0))) [
       | inl l ↦ omega arith
@@ -46,9 +46,9 @@ returns-in_err-left c =
           c.loop-block.invariant.value c.loop-block.invariant.rest above is,
     )
 
-pub returns-in_err-sum : goal.returns-in_err-sum
-returns-in_err-sum c =
-    let (k, is) = fit_exists (choices c.args.codes.now) c.args.side.now (told c.args.codes.now c.block_count-block-end.ensures.limits) c.requires in
+pub returns-in_err-sum-clause-value : goal.returns-in_err-sum-clause-value
+returns-in_err-sum-clause-value c =
+    let (k, is) = fit_exists (choices c.args.codes.now) c.args.side.now (told c.args.codes.now c.block_count-block-end.ensures.limits) c.requires.side in
     let within : c.loop-block.block < blocks (choices c.args.codes.now) = omega arith in
     let parts = c.in_ok-left.ensures in
     let left : c.in_ok-left.left + (c.loop-block.sum + (c.loop-block.rest - c.in_ok-rest-2.field-0)) ≡ c.args.limit =
@@ -60,7 +60,7 @@ returns-in_err-sum c =
           c.in_ok-left.left c.args.limit k within c.loop-block.invariant.value
           (rest_next (choices c.args.codes.now) c.args.side.now c.loop-block.block c.loop-block.rest c.in_ok-rest-2.field-0 _ within
           c.loop-block.invariant.rest c.in_ok-rest-2.ensures.least refl)
-          left c.in_err-sum.ensures is,
+          left c.in_err-sum.ensures.value is,
     )
 
 pub least_fit-requires-clause-exacts : goal.least_fit-requires-clause-exacts
@@ -70,11 +70,12 @@ least_fit-requires-clause-exacts c =
 pub loop-block-preserved : goal.loop-block-preserved
 loop-block-preserved c =
     let within : c.loop-block.block < blocks (choices c.args.codes.now) = omega arith in
-    let parts = c.in_ok-left.ensures in let most = c.in_ok-sum.ensures.1 in
+    let parts = c.in_ok-left.ensures in let most = c.in_ok-sum.ensures.value.1 in
     record {
       value = sum_more (MayFit (choices c.args.codes.now) c.args.side.now) (choices c.args.codes.now).cost c.loop-block.block c.loop-block.sum
-          c.in_ok-sum.field-0 c.loop-block.invariant.value c.in_ok-sum.ensures.0;
+          c.in_ok-sum.field-0 c.loop-block.invariant.value c.in_ok-sum.ensures.value.0;
       rest = rest_next (choices c.args.codes.now) c.args.side.now c.loop-block.block c.loop-block.rest c.in_ok-rest-2.field-0 _ within
           c.loop-block.invariant.rest c.in_ok-rest-2.ensures.least refl;
+      told = c.in_ok-sum.ensures.told;
       limit = (let l = parts.0 in let e = parts.1 in omega arith);
     }

@@ -1,6 +1,7 @@
 use Rattle.std.proofs.Common.{◌+◌, ◌^◌, ◌<◌}
 use Rattle.plan_rule.specs.Bounds.{IsSumOfLeast, MayFit}
 use Rattle.plan_rule.specs.Yards.{choices}
+use Rattle.log_checker.specs.Offsets.{AreTold}
 use Rattle.log_checker.proofs.FitLaws.{IsRest}
 use Rattle.log_checker.proofs.fit.fit.Given as goal
 
@@ -9,5 +10,6 @@ abbrev pub invariant-loop-block : goal.invariant-loop-block
 invariant-loop-block l = record {
   value : IsSumOfLeast (MayFit (choices l.codes) l.side) (choices l.codes).cost l.block l.sum;
   rest : IsRest (choices l.codes) l.side l.block l.rest;
+  told : AreTold l.codes l.offsets;
   limit : l.sum + l.rest < 2 ^ 32;
 }

@@ -1,9 +1,9 @@
 use Rattle.log_checker.proofs.FitLaws.{refutes_above}
 use Rattle.log_checker.proofs.fit.fit_fault.Goals as goal
 
-pub returns-in_default : goal.returns-in_default
-returns-in_default c =
-    let (k, is, above) = c.in_default.ensures in (
+pub returns-in_default-clause-value : goal.returns-in_default-clause-value
+returns-in_default-clause-value c =
+    let (k, is, above) = c.in_default.ensures.value in (
       k,
       is,
       refutes_above c.args.codes.now c.args.claim c.args.side.now c.greatest.result k c.yard-yard.ensures.limits c.requires.claim c.greatest.ensures is above,

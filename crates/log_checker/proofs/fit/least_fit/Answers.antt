@@ -14,12 +14,12 @@ own_cost-requires-clause-code c =
     code_exists c.args.codes.now c.args.block c.in-Some.code
     (exact_exists (choices c.args.codes.now) c.args.side.now c.args.block c.in-Some.code c.requires.side (sym c.in-Some.ensures))
 
-pub returns-in-Some : goal.returns-in-Some
-returns-in-Some c =
+pub returns-in-Some-clause-value : goal.returns-in-Some-clause-value
+returns-in-Some-clause-value c =
     fits_exact c.args.codes.now c.args.side.now c.args.block c.in-Some.code c.own_cost.result c.args.limit c.up_to.result c.requires.side
     (sym c.in-Some.ensures) c.own_cost.ensures.value c.up_to.ensures
 
-pub returns-in-None : goal.returns-in-None
-returns-in-None c =
+pub returns-in-None-clause-value : goal.returns-in-None-clause-value
+returns-in-None-clause-value c =
     least_clear_fits c.args.codes.now c.args.side.now c.args.exacts.now c.args.block c.args.limit c.least_free.result c.requires.exacts
-    (sym c.in-None.ensures) c.least_free.ensures
+    (sym c.in-None.ensures) c.least_free.ensures.value

@@ -9,11 +9,11 @@ use Rattle.log_checker.proofs.LeastLaws.{least_done}
 use Rattle.log_checker.proofs.OnwardLaws.{onward_cost}
 use Rattle.log_checker.proofs.free.least_free.Goals as goal
 
-pub returns-then-not-is_better : goal.returns-then-not-is_better
-returns-then-not-is_better c =
+pub returns-then-not-is_better-clause-value : goal.returns-then-not-is_better-clause-value
+returns-then-not-is_better-clause-value c =
     let n = count-length c.args.codes.now c.args.block (block_exists c.args.codes.now c.args.block c.requires.block) in
     least_done (IsClear c.args.codes.now c.args.exacts.now c.args.block) ((choices c.args.codes.now).cost c.args.block) c.args.limit c.loop-code.code
-    c.max-floor.result c.loop-code.best c.loop-code.invariant
+    c.max-floor.result c.loop-code.best c.loop-code.invariant.least
     (λ k le clear.
     let within = clear.0 in
     let least = c.in_ok-least.ensures.least k (omega arith) in

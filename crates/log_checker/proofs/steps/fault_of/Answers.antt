@@ -7,14 +7,14 @@ use Rattle.refutation_log.specs.Steps.{IsStep}
 use Rattle.log_checker.proofs.StepLaws.{branch_step}
 use Rattle.log_checker.proofs.steps.fault_of.Goals as goal
 
-pub returns-in-None : goal.returns-in-None
-returns-in-None c =
+pub returns-in-None-clause-value : goal.returns-in-None-clause-value
+returns-in-None-clause-value c =
     let form : HasForm (choices c.args.codes.now) c.args.entry.now = c.if-not-has_form.ensures.0 refl in
     subst (λ r. IsStep (choices c.args.codes.now) (plan_of c.args.claim) c.args.earlier.now r) (sym c.in-Branch.is)
     (branch_step (choices c.args.codes.now) (plan_of c.args.claim) c.args.earlier.now _ _ _ _ _ (subst (HasForm (choices c.args.codes.now)) c.in-Branch.is form)
     (search rules) (search rules))
 
-pub returns-in-Some-energy_fault : goal.returns-in-Some-energy_fault
-returns-in-Some-energy_fault c =
+pub returns-in-Some-energy_fault-clause-value : goal.returns-in-Some-energy_fault-clause-value
+returns-in-Some-energy_fault-clause-value c =
     let form : HasForm (choices c.args.codes.now) c.args.entry.now = c.if-not-has_form.ensures.0 refl in
     (refl, form, subst (λ r. HasLowBound (choices c.args.codes.now) (plan_of c.args.claim) r c.in-Some-energy_fault.bound) (sym c.in-Energy.is) c.in-Some-energy_fault.ensures)

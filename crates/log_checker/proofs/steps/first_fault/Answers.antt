@@ -9,7 +9,7 @@ use Rattle.log_checker.proofs.StepLaws.{forms_taken, none_of, steps_more}
 use Rattle.log_checker.proofs.steps.first_fault.Goals as goal
 
 pub fault_of-requires-clause-earlier : goal.fault_of-requires-clause-earlier
-fault_of-requires-clause-earlier c = forms_taken (choices c.args.codes.now) (plan_of c.args.claim) c.args.records.now c.loop-i.i (omega arith) c.loop-i.invariant
+fault_of-requires-clause-earlier c = forms_taken (choices c.args.codes.now) (plan_of c.args.claim) c.args.records.now c.loop-i.i (omega arith) c.loop-i.invariant.steps
 
 pub returns-in-Some : goal.returns-in-Some
 returns-in-Some c =
@@ -18,11 +18,14 @@ returns-in-Some c =
     let here : MatchOption (Some c.in-Some.refused) (IsStep (choices c.args.codes.now) (plan_of c.args.claim) (take c.loop-i.i c.args.records.now) c.index-records-i.result)
     (IsFault (choices c.args.codes.now) (plan_of c.args.claim) (take c.loop-i.i c.args.records.now) c.index-records-i.result) =
     subst (λ o. MatchOption o (IsStep (choices c.args.codes.now) (plan_of c.args.claim) (take c.loop-i.i c.args.records.now) c.index-records-i.result)
-    (IsFault (choices c.args.codes.now) (plan_of c.args.claim) (take c.loop-i.i c.args.records.now) c.index-records-i.result)) c.in-Some.is c.in_ok-refused.ensures in
-    record { number = c.loop-i.i; entry = c.index-records-i.result; at = at; before = c.loop-i.invariant; here = here }
+    (IsFault (choices c.args.codes.now) (plan_of c.args.claim) (take c.loop-i.i c.args.records.now) c.index-records-i.result)) c.in-Some.is c.in_ok-refused.ensures.value in
+    record { number = c.loop-i.i; entry = c.index-records-i.result; at = at; before = c.loop-i.invariant.steps; here = here }
 
 pub loop-i-preserved : goal.loop-i-preserved
 loop-i-preserved c =
     let at : slice_get c.args.records.now c.loop-i.i ≡ Some c.index-records-i.result =
     slice_get_read c.args.records.now (length c.args.records.now) c.loop-i.i c.index-records-i.result refl (omega arith) c.index-records-i.is in
-    steps_more _ _ _ _ _ c.loop-i.invariant at (none_of c.in_ok-refused.field-0 _ _ c.in_default.not-Some c.in_ok-refused.ensures)
+    record {
+      steps = steps_more _ _ _ _ _ c.loop-i.invariant.steps at (none_of c.in_ok-refused.field-0 _ _ c.in_default.not-Some c.in_ok-refused.ensures.value);
+      told = c.in_ok-refused.ensures.told;
+    }

@@ -1,10 +1,10 @@
-use Rattle.std.proofs.Common.{◌≤◌, ◌<◌, arith}
+use Rattle.std.proofs.Common.{arith}
 use Rattle.plan_rule.proofs.CountLaws.{block_exists}
 use Rattle.log_checker.proofs.WalkLaws.{not_settled, settled_on, settled_to, stretch_taken}
 use Rattle.log_checker.proofs.uncovered.first_uncovered.Goals as goal
 
-pub returns-then-walk-kept : goal.returns-then-walk-kept
-returns-then-walk-kept c =
+pub returns-then-walk-kept-clause-value : goal.returns-then-walk-kept-clause-value
+returns-then-walk-kept-clause-value c =
     let from = c.loop-walk.invariant.from in
     let forward = c.to_clear-walk.ensures.forward in
     let within = c.keeps-kept.ensures.within in
@@ -40,6 +40,7 @@ loop-walk-preserved c =
     c.keeps-kept.ensures.taken in
     record {
       from = omega arith;
+      told = c.to_clear-walk.ensures.told;
       settled = settled_on c.args.codes.now c.args.block c.args.cut c.args.exacts.now c.args.spans.now c.args.lo c.args.hi
           c.loop-walk.walk.code c.to_clear-walk.result.code c.keeps-kept.result c.min-end.result c.on_from-walk-in-loop-walk.result.code
           forward (omega arith) past (λ k low high. taken k (omega arith) high) c.on_from-walk-in-loop-walk.ensures.skipped;

@@ -1,4 +1,5 @@
 use Rattle.std.proofs.Common.{ℕ, ◌-◌, ◌<◌, ◌≤◌, ◌⊎◌, length}
+use Rattle.log_checker.specs.Offsets.{AreTold}
 use Rattle.log_checker.specs.Spans.{InOne}
 use Rattle.log_checker.specs.Walks.{ArePassed, IsHindered}
 use Rattle.log_checker.proofs.walk.Walk.to_clear.Given as goal
@@ -9,6 +10,7 @@ invariant-loop-walk l = record {
   within : l.walk.passed ≤ length l.spans;
   passed : ArePassed l.spans l.walk.passed l.walk.code;
   left : InOne l.spans l.walk.code → ⊥;
+  told : AreTold l.codes l.offsets;
   skipped : (k : ℕ) → l.fn.self.code ≤ k → k < l.walk.code → InOne l.spans k ⊎ IsHindered l.codes l.exacts l.block k;
 }
 
