@@ -11,6 +11,7 @@ pub mod NearLaws
 pub mod NearPieceLaws
 pub mod OffsetLaws
 pub mod OnwardLaws
+pub mod PassedLaws
 pub mod RestLaws
 pub mod SpanLaws
 pub mod StepLaws

@@ -136,7 +136,7 @@ told_here yard list slot d t o all within at is same =
     let here : IfSome (Some t) (IsTold yard) = subst (λ o. IfSome o (IsTold yard)) (sym at ∙ is) (all slot d within) in
     subst (λ o. IsTrue t.apart ↔ AreSoApart yard o) same here
 
-both : (s t : Bool) → (s && t) ≡ true → (s ≡ true) × (t ≡ true)
+pub both : (s t : Bool) → (s && t) ≡ true → (s ≡ true) × (t ≡ true)
 both true t e = (refl, e)
 both false t e = absurd (false≢true e)
 

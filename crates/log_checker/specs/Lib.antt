@@ -6,6 +6,7 @@ pub mod Leasts
 pub mod Lines
 pub mod NearPieces
 pub mod Offsets
+pub mod PassedCodes
 pub mod Spans
 pub mod Ties
 pub mod Verdicts

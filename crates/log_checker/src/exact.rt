@@ -11,7 +11,7 @@ use code_table::{Codes, Placement};
 use plan_rule::{PlanBox, may_clash};
 
 /// A block that a side fixes to one code, and the placement of that code.
-#[derive(Clone, Copy)]
+#[derive(Clone, Copy, PartialEq)]
 pub(crate) struct Exact {
     pub block: u8,
     pub place: Placement,

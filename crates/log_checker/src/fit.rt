@@ -1,5 +1,5 @@
 //! The fit of a side.
-ghost use Rattle.std.specs.Prelude.{◌≡◌, ◌<◌, ◌≤◌, All, None, Option, MatchOption, Some, length, ℕ, if◌then◌else◌, nat_le};
+ghost use Rattle.std.specs.Prelude.{◌≡◌, ◌<◌, ◌≤◌, All, Contains, None, Option, MatchOption, Some, length, ℕ, if◌then◌else◌, nat_le};
 ghost use Rattle.plan_rule.specs.Choices.{blocks};
 ghost use Rattle.plan_rule.specs.Boxes.{IsBox};
 ghost use Rattle.plan_rule.specs.Bounds.{IsFit, Refutes};
@@ -8,12 +8,14 @@ ghost use Rattle.log_checker.specs.Claims.{IsClaim, plan_of};
 ghost use Rattle.log_checker.specs.ExactBlocks.{AreExact, IsStanding};
 ghost use Rattle.log_checker.specs.Leasts.{IsFitUpTo, IsLeastFit};
 ghost use Rattle.log_checker.specs.Offsets.{AreTold};
+ghost use Rattle.log_checker.specs.PassedCodes.{ArePassed};
 
 use crate::base::base;
 use crate::claim::Claim;
 use crate::exact::{Exact, exact_of};
 use crate::free::least_free;
 use crate::offset::Offsets;
+use crate::passed::Passed;
 use crate::refute::fault;
 use crate::rest::{exact_in, least_in};
 use code_table::Codes;
@@ -30,42 +32,56 @@ fn up_to(cost: u32, limit: u32) -> Option<u32>
 fn least_fit(
     codes: &Codes,
     offsets: &mut Offsets,
+    passed: &mut Passed,
     side: &PlanBox,
     exacts: &[Exact],
     block: u8,
     limit: u32,
 ) -> Option<u32>
     requires told { AreTold codes.now offsets.old }
+    requires kept { ArePassed codes.now passed.old }
     requires side { IsBox (choices codes.now) side.now }
     requires exacts { AreExact codes.now side.now exacts.now }
     requires few { length exacts.now ≤ 32 }
     requires standing { All (IsStanding codes.now) exacts.now }
     requires block { block < blocks (choices codes.now) }
+    requires among { All (Contains exacts.now) passed.old.exacts.items }
     ensures value { IsLeastFit (choices codes.now) side.now block limit result }
     ensures told { AreTold codes.now offsets.new }
+    ensures kept { ArePassed codes.now passed.new }
+    ensures among { All (Contains exacts.now) passed.new.exacts.items }
 {
     match exact_in(side, block) {
         Some(code) => up_to(codes.own_cost(block, code), limit),
-        None => least_free(codes, offsets, exacts, block, limit),
+        None => least_free(codes, offsets, passed, exacts, block, limit),
     }
 }
 
 /// The fit of the side, where it is at most the limit; None where it is above, or Never. A block's least cost is not
 /// sought above what the limit leaves beside the costs found so far and the least own costs of the blocks to come.
-fn fit(codes: &Codes, offsets: &mut Offsets, side: &PlanBox, limit: u32) -> Option<u32>
+fn fit(
+    codes: &Codes,
+    offsets: &mut Offsets,
+    passed: &mut Passed,
+    side: &PlanBox,
+    limit: u32,
+) -> Option<u32>
     requires told { AreTold codes.now offsets.old }
+    requires kept { ArePassed codes.now passed.old }
     requires side { IsBox (choices codes.now) side.now }
     ensures value { IsFitUpTo (choices codes.now) side.now limit result }
     ensures told { AreTold codes.now offsets.new }
+    ensures kept { ArePassed codes.now passed.new }
 {
     let mut rest = base(codes, side)?;
     let exacts = exact_of(codes, side);
     let exacts = exacts.as_slice();
+    passed.turn_to(exacts);
     let mut sum = 0;
     for block in 0..block_count(codes) {
         rest -= least_in(codes, side, block)?;
         let left = limit.checked_sub(sum + rest)?;
-        sum += least_fit(codes, offsets, side, exacts, block, left)?;
+        sum += least_fit(codes, offsets, passed, side, exacts, block, left)?;
     }
     Some(sum)
 }
@@ -84,10 +100,12 @@ fn greatest(claim: Option<Claim<'_>>) -> u32
 pub(crate) fn fit_fault(
     codes: &Codes,
     offsets: &mut Offsets,
+    passed: &mut Passed,
     claim: Option<Claim<'_>>,
     side: &PlanBox,
 ) -> Option<u32>
     requires told { AreTold codes.now offsets.old }
+    requires kept { ArePassed codes.now passed.old }
     requires claim { IsClaim (choices codes.now) claim }
     requires side { IsBox (choices codes.now) side.now }
     ensures value { MatchOption result
@@ -96,9 +114,10 @@ pub(crate) fn fit_fault(
         (λ n. IsFit (choices codes.now) side.now (Some n)
         × (Refutes (choices codes.now) (plan_of claim.entry) side.now (Some n) → ⊥)) }
     ensures told { AreTold codes.now offsets.new }
+    ensures kept { ArePassed codes.now passed.new }
 {
     let _yard = codes.yard();
-    let Some(fit) = fit(codes, offsets, side, greatest(claim)) else {
+    let Some(fit) = fit(codes, offsets, passed, side, greatest(claim)) else {
         return None;
     };
     fault(codes, claim, side, Some(fit))

@@ -1,5 +1,5 @@
 //! The codes of a block at which it clashes with no exact block and meets no piece.
-ghost use Rattle.std.specs.Prelude.{◌≡◌, ◌≤◌, ◌<◌, All, length};
+ghost use Rattle.std.specs.Prelude.{◌≡◌, ◌≤◌, ◌<◌, All, Contains, length};
 ghost use Rattle.code_table.specs.Placements.{placements};
 ghost use Rattle.code_table.specs.Stretches.{IsStretch};
 ghost use Rattle.plan_rule.specs.Choices.{blocks};
@@ -7,11 +7,13 @@ ghost use Rattle.plan_rule.specs.Yards.{choices};
 ghost use Rattle.log_checker.specs.ExactBlocks.{IsStanding};
 ghost use Rattle.log_checker.specs.Leasts.{IsLeastClear, IsLeastClearBelow, is_better};
 ghost use Rattle.log_checker.specs.Offsets.{AreTold};
+ghost use Rattle.log_checker.specs.PassedCodes.{AreHinderedTo, ArePassed};
 
 use crate::block::cost_at;
 use crate::cut::least_from;
 use crate::exact::Exact;
 use crate::offset::Offsets;
+use crate::passed::Passed;
 use crate::walk::Walk;
 use code_table::{Codes, Stretch};
 
@@ -65,30 +67,70 @@ fn with_stretch(
     }
 }
 
-/// The least own cost, where it is at most the limit, of the codes at which the block clashes with no exact block and meets
-/// no piece. The codes of one start, plate and turn have one cost, so that they are asked only where it is better, and
-/// no further than to the first one. The walk ends where the block's least own cost, or the start that it has come to,
-/// shows that no later code is better.
+/// How many of the block's first codes are all hindered: those before the first one that is not, or before the first
+/// stretch of codes that cost more than the limit.
 #[tactic(auto, using(plan_rule::proofs::CountLaws::counts))]
-pub(crate) fn least_free(
+pub(crate) fn first_clear(
     codes: &Codes,
     offsets: &mut Offsets,
     exacts: &[Exact],
     block: u8,
     limit: u32,
+) -> u32
+    requires told { AreTold codes.now offsets.old }
+    requires block { block < blocks (choices codes.now) }
+    requires few { length exacts.now ≤ 32 }
+    requires standing { All (IsStanding codes.now) exacts.now }
+    ensures hindered { AreHinderedTo codes.now exacts.now block result }
+    ensures told { AreTold codes.now offsets.new }
+{
+    let count = codes.count(block);
+    let mut code = 0;
+    while code < count {
+        let stretch = codes.stretch(block, code);
+        if limit < cost_at(codes, block, stretch.place.end) {
+            return code;
+        }
+        let start = Walk { passed: 0, code };
+        let found = start.to_clear(codes, offsets, block, stretch, stretch.hi, exacts, &[]);
+        if found.code < stretch.hi {
+            return found.code;
+        }
+        code = stretch.hi;
+    }
+    code
+}
+
+/// The least own cost, where it is at most the limit, of the codes at which the block clashes with no exact block and meets
+/// no piece. The codes of one start, plate and turn have one cost, so that they are asked only where it is better, and
+/// no further than to the first one. Those that
+/// were found hindered before are passed at once. The walk ends where the block's least own cost, or the start that it has come to,
+/// shows that no later code is better.
+#[tactic(auto, using(plan_rule::proofs::CountLaws::counts))]
+pub(crate) fn least_free(
+    codes: &Codes,
+    offsets: &mut Offsets,
+    passed: &mut Passed,
+    exacts: &[Exact],
+    block: u8,
+    limit: u32,
 ) -> Option<u32>
     requires told { AreTold codes.now offsets.old }
+    requires kept { ArePassed codes.now passed.old }
+    requires among { All (Contains exacts.now) passed.old.exacts.items }
     requires block { block < blocks (choices codes.now) }
     requires few { length exacts.now ≤ 32 }
     requires standing { All (IsStanding codes.now) exacts.now }
     ensures value { IsLeastClear codes.now exacts.now block limit result }
     ensures told { AreTold codes.now offsets.new }
+    ensures kept { ArePassed codes.now passed.new }
+    ensures among { All (Contains exacts.now) passed.new.exacts.items }
 {
     codes.codes_ascend(block);
     let least = codes.least_cost(block)?;
     let count = codes.count(block);
     let mut best = None;
-    let mut code = 0;
+    let mut code = passed.count(codes, offsets, exacts, block, limit);
     while code < count {
         let stretch = codes.stretch(block, code);
         let floor = least.max(least_from(codes, block, stretch.place.start));

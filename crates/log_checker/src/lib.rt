@@ -22,6 +22,7 @@ mod free;
 mod judge;
 mod near;
 mod offset;
+mod passed;
 mod refute;
 mod rest;
 mod span;

@@ -5,6 +5,7 @@ ghost use Rattle.refutation_log.specs.Steps.{IsStep};
 ghost use Rattle.log_checker.specs.Claims.{IsClaim, plan_of};
 ghost use Rattle.log_checker.specs.Forms.{HasForm};
 ghost use Rattle.log_checker.specs.Offsets.{AreTold};
+ghost use Rattle.log_checker.specs.PassedCodes.{ArePassed};
 ghost use Rattle.log_checker.specs.Verdicts.{AreStepsBefore, IsFault, IsFirst, IsFirstFault};
 
 use crate::Refused;
@@ -14,6 +15,7 @@ use crate::energy::energy_fault;
 use crate::fit::fit_fault;
 use crate::form::has_form;
 use crate::offset::Offsets;
+use crate::passed::Passed;
 use code_table::Codes;
 use refutation_log::{Cites, Record};
 use shape_exact::NoMemory;
@@ -36,11 +38,13 @@ fn fault_of(
     alloc: Global,
     codes: &Codes,
     offsets: &mut Offsets,
+    passed: &mut Passed,
     claim: Option<Claim<'_>>,
     earlier: &[Record],
     entry: &Record,
 ) -> Result<Option<Refused>, NoMemory>
     requires told { AreTold codes.now offsets.old }
+    requires kept { ArePassed codes.now passed.old }
     requires claim { IsClaim (choices codes.now) claim }
     requires earlier { All (HasForm (choices codes.now)) earlier.now }
     requires few { length earlier.now < 10 ^ 18 }
@@ -48,6 +52,7 @@ fn fault_of(
         (IsStep (choices codes.now) (plan_of claim.entry) earlier.now entry.now)
         (IsFault (choices codes.now) (plan_of claim.entry) earlier.now entry.now)) }
     ensures told { AreTold codes.now offsets.new }
+    ensures kept { ArePassed codes.now passed.new }
 {
     let step = earlier.len() as u64;
     if !has_form(codes, entry) {
@@ -71,7 +76,7 @@ fn fault_of(
                 None => Ok(None),
             }
         }
-        Record::Fit { side } => match fit_fault(codes, offsets, claim, side) {
+        Record::Fit { side } => match fit_fault(codes, offsets, passed, claim, side) {
             Some(bound) => Ok(Some(Refused::BoundLow(step, bound))),
             None => Ok(None),
         },
@@ -98,11 +103,13 @@ pub(crate) fn first_fault(
         (IsFirstFault (choices codes.now) (plan_of claim.entry) records.now)) }
 {
     let mut offsets = Offsets::new(alloc)?;
+    let mut passed = Passed::new();
     for i in 0..records.len() {
         if let Some(refused) = fault_of(
             alloc,
             codes,
             &mut offsets,
+            &mut passed,
             claim,
             &records[..i],
             &records[i],

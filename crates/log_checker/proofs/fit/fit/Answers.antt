@@ -8,7 +8,7 @@ use Rattle.plan_rule.proofs.TellLaws.{told}
 use Rattle.log_checker.specs.ExactBlocks.{AreExact}
 use Rattle.log_checker.specs.Leasts.{IsFitUpTo}
 use Rattle.log_checker.proofs.FitExistLaws.{fit_exists}
-use Rattle.log_checker.proofs.FitLaws.{above_by_next, above_by_rest, never_fits, rest_has, rest_next}
+use Rattle.log_checker.proofs.FitLaws.{above_by_next, above_by_rest, never_fits, rest_has, rest_next, rest_start}
 use Rattle.log_checker.proofs.LeastLaws.{sum_more}
 use Rattle.log_checker.proofs.fit.fit.Goals as goal
 
@@ -77,5 +77,19 @@ loop-block-preserved c =
       rest = rest_next (choices c.args.codes.now) c.args.side.now c.loop-block.block c.loop-block.rest c.in_ok-rest-2.field-0 _ within
           c.loop-block.invariant.rest c.in_ok-rest-2.ensures.least refl;
       told = c.in_ok-sum.ensures.told;
+      kept = c.in_ok-sum.ensures.kept;
+      among = c.in_ok-sum.ensures.among;
       limit = (let l = parts.0 in let e = parts.1 in omega arith);
+    }
+
+pub loop-block-init : goal.loop-block-init
+loop-block-init c =
+    let few = c.in_ok-rest.ensures.few in
+    record {
+      value = refl;
+      rest = rest_start (choices c.args.codes.now) c.args.side.now c.in_ok-rest.rest c.in_ok-rest.ensures.base;
+      told = c.requires.told;
+      kept = c.turn_to.ensures.kept c.args.codes.now c.requires.kept;
+      among = c.turn_to.ensures.among;
+      limit = omega arith;
     }

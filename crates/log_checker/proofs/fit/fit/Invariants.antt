@@ -1,7 +1,9 @@
+use Rattle.std.specs.Prelude.{All, Contains}
 use Rattle.std.proofs.Common.{◌+◌, ◌^◌, ◌<◌}
 use Rattle.plan_rule.specs.Bounds.{IsSumOfLeast, MayFit}
 use Rattle.plan_rule.specs.Yards.{choices}
 use Rattle.log_checker.specs.Offsets.{AreTold}
+use Rattle.log_checker.specs.PassedCodes.{ArePassed}
 use Rattle.log_checker.proofs.FitLaws.{IsRest}
 use Rattle.log_checker.proofs.fit.fit.Given as goal
 
@@ -11,5 +13,7 @@ invariant-loop-block l = record {
   value : IsSumOfLeast (MayFit (choices l.codes) l.side) (choices l.codes).cost l.block l.sum;
   rest : IsRest (choices l.codes) l.side l.block l.rest;
   told : AreTold l.codes l.offsets;
+  kept : ArePassed l.codes l.passed;
+  among : All (Contains l.exacts) l.passed.exacts.items;
   limit : l.sum + l.rest < 2 ^ 32;
 }

@@ -6,6 +6,7 @@ use Rattle.plan_rule.specs.Yards.{choices}
 use Rattle.plan_rule.proofs.CountLaws.{block_exists, cost_is, count-length, is_code}
 use Rattle.log_checker.specs.Leasts.{IsClear}
 use Rattle.log_checker.proofs.LeastLaws.{least_done}
+use Rattle.log_checker.proofs.PassedLaws.{none_below}
 use Rattle.log_checker.proofs.OnwardLaws.{onward_cost}
 use Rattle.log_checker.proofs.free.least_free.Goals as goal
 
@@ -27,3 +28,9 @@ returns-then-not-is_better-clause-value c =
     le (c.requires.block, clear.0) in
     omega arith)
     (sym c.is_better.ensures ∙ c.if-not-is_better.true)
+
+pub loop-code-init : goal.loop-code-init
+loop-code-init c = record {
+  least = none_below c.args.codes.now c.args.exacts.now c.args.block c.count-code.result c.args.limit c.count-code.ensures.hindered;
+  told = c.count-code.ensures.told;
+}

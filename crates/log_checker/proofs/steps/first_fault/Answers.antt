@@ -28,4 +28,12 @@ loop-i-preserved c =
     record {
       steps = steps_more _ _ _ _ _ c.loop-i.invariant.steps at (none_of c.in_ok-refused.field-0 _ _ c.in_default.not-Some c.in_ok-refused.ensures.value);
       told = c.in_ok-refused.ensures.told;
+      kept = c.in_ok-refused.ensures.kept;
     }
+
+pub loop-i-init : goal.loop-i-init
+loop-i-init c = record {
+  steps = λ i below. absurd (omega arith);
+  told = c.in_ok-offsets.ensures c.args.codes.now;
+  kept = c.new-passed.ensures c.args.codes.now;
+}
