@@ -14,7 +14,8 @@ blocks_more front total count i s t below state so_far =
     let one : front ++ blocks_text i (blocks_from (count - i) s) ≡ front ++ (block_text i (block_at s) ++ rest) = rw left refl in
     rw state (append_assoc front (block_text i (block_at s)) rest ∙ sym one ∙ so_far)
 
-pub blocks_all : (front total : List ℕ) (count i s : ℕ) → count ≤ i → front ++ blocks_text i (blocks_from (count - i) s) ≡ total → front ≡ total
+pub blocks_all : (front total : List ℕ) (count i s : ℕ) → count ≤ i → front ++ blocks_text i (blocks_from (count - i) s) ≡ total
+    → front ≡ total
 unfolding blocks_from
 blocks_all front total count i s past so_far =
     let left : count - i ≡ 0 = omega arith in

@@ -1,1 +1,15 @@
 pub mod BlockLaws
+pub mod ByteLaws
+pub mod CountLaws
+pub mod DrawnLaws
+pub mod FormLaws
+pub mod LengthLaws
+pub mod NameLaws
+pub mod PlainLaws
+pub mod QuoteLaws
+pub mod ReadLaws
+pub mod RunLaws
+pub mod ShapeLaws
+pub mod SpellLaws
+pub mod ValueLaws
+pub mod YardLaws

@@ -5,10 +5,12 @@
 //! `docs/FORMATS.md`, byte by byte.
 #![tactic(auto)]
 
+mod drawn;
 mod draws;
 mod texts;
 mod yards;
 
+pub use drawn::drawn_yard;
 pub use yards::generate;
 
 #[cfg(test)]

@@ -1,8 +1,8 @@
-//! The worked text, and that texts of many seeds are read.
+//! The worked text, and the yard that it is.
 
-use crate::generate;
+use crate::{drawn_yard, generate};
+use shape_exact::Point;
 use std::test::Fail;
-use yard_file::read_yard;
 
 /// The text of seed 1 and one block.
 const FIRST: &str = "version = 1
@@ -42,17 +42,29 @@ fn seed_one_with_one_block(rt: HostRuntime) -> Result<(), Fail> {
     Ok(())
 }
 
-/// Texts of seeds from one end of the range to the other, with 1 to 32 blocks. Among their 1,056 blocks each of the 50
-/// footprints that can be drawn occurs, and each value of each other drawn number.
+/// The figures of the same text, as a yard.
 #[test]
-fn every_text_is_read(rt: HostRuntime) -> Result<(), Fail> {
-    for i in 0..64u32 {
-        let seed = i * 34_087_042;
-        let blocks = (i % 32) as u8 + 1;
-        let text = generate(rt.alloc(), seed, blocks)?;
-        let yard = read_yard(rt.alloc(), text.as_slice())?;
-        assert_eq!(rt; yard.plates().len(), 3);
-        assert_eq!(rt; yard.blocks().len(), usize::from(blocks));
+fn first_drawn_yard(rt: HostRuntime) -> Result<(), Fail> {
+    let yard = drawn_yard(rt.alloc(), 1, 1)?;
+    assert_eq!(rt; yard.days(), 200);
+    assert_eq!(rt; yard.plates().len(), 3);
+    assert_eq!(rt; yard.blocks().len(), 1);
+    let block = &yard.blocks()[0];
+    assert_eq!(rt; block.name.bytes(), b"B0".as_slice());
+    let corners = [(0, 0), (10, 0), (10, 8), (8, 10), (0, 10)].map(|(x, y)| Point { x, y });
+    assert_eq!(rt; block.shape.points(), corners.as_slice());
+    assert_eq!(rt; block.turns, [true, true, false, false]);
+    assert_eq!(rt; [block.duration, block.release, block.due], [1, 11, 78]);
+    assert_eq!(rt; [block.weight, block.early], [7, 0]);
+    Ok(())
+}
+
+/// The greatest seeds and numbers of blocks.
+#[test]
+fn largest_drawn_yards(rt: HostRuntime) -> Result<(), Fail> {
+    for seed in [0, 1, 2_147_483_647] {
+        let yard = drawn_yard(rt.alloc(), seed, 32)?;
+        assert_eq!(rt; yard.blocks().len(), 32, "seed {seed}");
     }
     Ok(())
 }
