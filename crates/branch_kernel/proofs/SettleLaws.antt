@@ -1,5 +1,6 @@
 -- The ways in which one code of a block is settled beside a side.
-use Rattle.std.proofs.Common.{◌≡◌, ℕ, ◌+◌, ◌<◌, List, [], ◌∷◌, length, get_or, Option, sym, ap, ◌∙◌, subst, arith, Bool, true, false}
+use Rattle.std.proofs.Common.{◌≡◌, ℕ, ◌+◌, ◌<◌, List, [], ◌∷◌, length, get_or, Option, Some, sym, ap, ◌∙◌, subst, arith, Bool, true, false}
+use Rattle.std.specs.Prelude.{slice_get}
 use Rattle.std.proofs.lemmas.List.Elements.{All-contains}
 use Rattle.std.proofs.lemmas.Option.{get_or_from_slice_get, slice_get_within}
 use Rattle.plan_rule.specs.declared.literal.Literal.{Literal}
@@ -12,7 +13,6 @@ use Rattle.plan_rule.proofs.BoundLaws.{held_block}
 use Rattle.refutation_log.specs.declared.record.Record.{Record}
 use Rattle.refutation_log.specs.Steps.{result_of}
 use Rattle.nogood_store.specs.declared.nogood.Nogood.{Nogood}
-use Rattle.nogood_store.specs.Containers.{IsFirstContainer}
 use Rattle.branch_kernel.specs.Rivals.{Beats}
 use Rattle.branch_kernel.specs.States.{State, IsHeld, relied}
 use Rattle.branch_kernel.specs.Known.{AreKnown}
@@ -55,12 +55,13 @@ by_a_plan c job start s side child needs b code l q known node marks e f held fe
     by_a_base c job start s true side child needs b code l r known node marks e f base beats
 
 -- a stored box contains the side with the code
-pub by_a_box : (c : Choices) (job : Job) (start s : State) (side child : List Literal) (needs : ℕ → Bool) (b code : ℕ) (l : Literal) (n : Nogood) → AreKnown c
-    → IsNode c job side b code (code + 1) → MarksAll needs n.part → l ≡ exact b code → child ≡ with_literal side l → IsStored c s.log s.store → Grows c start s → IsFirstContainer c s.store child n
+pub by_a_box : (c : Choices) (job : Job) (start s : State) (side child : List Literal) (needs : ℕ → Bool) (b code i : ℕ) (n : Nogood) → AreKnown c
+    → IsNode c job side b code (code + 1) → MarksAll needs n.part → child ≡ with_literal side (exact b code) → IsStored c s.log s.store → Grows c start s
+    → slice_get s.store i ≡ Some n → Covers c n.part child
     → IsHandledBy c start s false side needs (n.tag ∷ []) b code × AreCited c start s false (n.tag ∷ [])
-by_a_box c job start s side child needs b code l n known node marks e f stored g (i, at, cover, first) =
+by_a_box c job start s side child needs b code i n known node marks e stored g at cover =
     let t : IsTagged c s.log n = All-contains (IsTagged c s.log) s.store n stored (at_place s.store i n at) in
-    by_hit c start s side needs b code n i node.free stored g at (subst (Covers c n.part) (f ∙ ap (with_literal side) e) cover) (marks_box c needs n.part known t.part_is marks)
+    by_hit c start s side needs b code n i node.free stored g at (subst (Covers c n.part) e cover) (marks_box c needs n.part known t.part_is marks)
 
 -- a record shows the side with the code
 pub by_a_record : (c : Choices) (job : Job) (start start' s : State) (tie : Bool) (side child : List Literal) (needs : ℕ → Bool) (b code k : ℕ) (l : Literal) (records : List Record) (d : Record) → AreKnown c

@@ -1,5 +1,5 @@
 //! How one code of a block is covered beside a side.
-ghost use Rattle.std.specs.Prelude.{◌≡◌, ◌≢◌, ◌+◌, ◌<◌, ◌≤◌, ℕ, Some, None, true, false, length, IfOk, option_to_list};
+ghost use Rattle.std.specs.Prelude.{◌≡◌, ◌≢◌, ◌+◌, ◌<◌, ◌≤◌, ℕ, Some, None, true, false, length, IfOk, IfSome, option_to_list};
 ghost use Rattle.plan_rule.specs.Boxes.{exact, with_literal};
 ghost use Rattle.plan_rule.specs.Yards.{choices};
 ghost use Rattle.branch_kernel.specs.States.{State, state};
@@ -34,8 +34,8 @@ pub enum Coverage {
 }
 
 /// Covers one code of a block beside a side, where no search is needed for it: it clashes with an exact code of the
-/// side, it meets a piece, the base beats the side with the code, or a stored box contains it. Marks the blocks whose
-/// literals are needed for that. Else answers the side with the code.
+/// side, it meets a piece, or the base beats the side with the code. Marks the blocks whose literals are needed for that.
+/// Else answers the side with the code.
 pub fn cover<B: Bars>(
     alloc: Global,
     codes: &Codes,
@@ -79,14 +79,37 @@ pub fn cover<B: Bars>(
         needs.add_all(side);
         return Ok(Coverage::Done(Covered { cite: None, tie }));
     }
-    if let Some(known) = store.container(codes, &child) {
+    Ok(Coverage::Open(child))
+}
+
+/// Covers a code by the box that stands at a place of the store, where that one contains the side with the code, and marks
+/// the blocks that it names. None where no box stands there, or one that does not contain it.
+pub fn cover_by_box(
+    codes: &Codes,
+    job: Job,
+    store: &Nogoods,
+    side: &PlanBox,
+    block: u8,
+    code: u32,
+    child: &PlanBox,
+    place: u32,
+    needs: &mut Blocks,
+) -> Option<Covered>
+    requires child { child.now ≡ with_literal side.now (exact block code) }
+    ensures needs { (x : ℕ) → has needs.old x ≡ true → has needs.new x ≡ true }
+    ensures covered { IfSome result (λ r. (start now : State) → now.store ≡ store.now.nogoods → IsReady (choices codes.now) job now
+        → IsNode (choices codes.now) job side.now block code (code + 1) → Grows (choices codes.now) start now
+        → CoversCode (choices codes.now) start now side.now (has needs.new) block code r) }
+{
+    let known = store.at(place)?;
+    if known.part.contains(codes, child) {
         needs.add_all(&known.part);
-        return Ok(Coverage::Done(Covered {
+        return Some(Covered {
             cite: Some(known.tag),
             tie: false,
-        }));
+        });
     }
-    Ok(Coverage::Open(child))
+    None
 }
 
 /// Covers a code by the plan that the side with the code leaves: the plan is offered, and afterwards it is not before

@@ -18,7 +18,7 @@ mod steps;
 pub use bars::{Bars, OneBar};
 pub use bounds::beats;
 pub use boxes::{clashing, copy, count_of, keep, node_part, plan_of, range_on, with, without};
-pub use covering::{Coverage, Covered, cover, cover_by_plan, cover_by_record};
+pub use covering::{Coverage, Covered, cover, cover_by_box, cover_by_plan, cover_by_record};
 pub use known::choices_are_known;
 pub use marks::Blocks;
 pub use plans::take_plan;

@@ -78,14 +78,17 @@ pub fn write_branch(
 /// A store holds no more boxes.
 const MOST_BOXES: u32 = 65_536;
 
-/// Stores the box of a record with its number, where no tie was used and fewer than 65,536 boxes stand. A refused growth
-/// is passed over: the box is then not found again.
+/// A stored box has no more literals: one of more is seldom met again.
+const MOST_LITERALS: usize = 5;
+
+/// Stores the box of a record with its number, where no tie was used, the box has at most five literals and fewer than
+/// 65,536 boxes stand. A refused growth is passed over: the box is then not found again.
 pub fn keep_box(store: &mut Nogoods, part: PlanBox, shown: Shown)
     requires { AreAmong 32 part }
     ensures kept { IsKept shown.tie store.old.nogoods store.new.nogoods (record { part = part; tag = shown.number }) }
     ensures prefix { store.new.prefix ≡ store.old.prefix }
 {
-    if shown.tie || store.len() >= MOST_BOXES {
+    if shown.tie || part.literals().len() > MOST_LITERALS || store.len() >= MOST_BOXES {
         return;
     }
     let _kept = store.add(part, shown.number);

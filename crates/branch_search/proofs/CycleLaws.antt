@@ -25,6 +25,10 @@ pub opened : (c : Choices) (job : Job) (start now : State) (side : List Literal)
     → IsCoverage c job start now side needs b code r → r ≡ Open child → (child ≡ with_literal side (exact b code)) × IsOpenBox c job child
 opened c job start now side needs b code r child h e = subst (IsCoverage c job start now side needs b code) e h
 
+pub covered_done : (c : Choices) (job : Job) (start now : State) (side : List Literal) (needs : ℕ → Bool) (b code : ℕ) (r : Coverage) (covered : Covered)
+    → IsCoverage c job start now side needs b code r → r ≡ Done covered → CoversCode c start now side needs b code covered
+covered_done c job start now side needs b code r covered h e = subst (IsCoverage c job start now side needs b code) e h
+
 -- what covers a code from a later start covers it from an earlier one
 pub covers_from : (c : Choices) (start middle now : State) (side : List Literal) (needs : ℕ → Bool) (b code : ℕ) (r : Covered) → Grows c start middle
     → CoversCode c middle now side needs b code r → CoversCode c start now side needs b code r

@@ -11,8 +11,9 @@ ghost use Rattle.branch_kernel.specs.Shows.{IsHandledBy};
 ghost use Rattle.branch_kernel.specs.States.{IsHeld, State, state};
 ghost use Rattle.branch_kernel.specs.Covers.{IsCoverage};
 
+use crate::Hints;
 use crate::floor::beats_from;
-use branch_kernel::{Bars, Blocks, Coverage, Covered, clashing, cover, keep, with};
+use branch_kernel::{Bars, Blocks, Coverage, Covered, clashing, cover, cover_by_box, keep, with};
 use code_table::Codes;
 use nogood_store::Nogoods;
 use plan_rule::{Job, Literal, Plan, PlanBox};
@@ -52,7 +53,7 @@ fn kept_covers(
 }
 
 /// Covers one code of a block beside a side as the kernel does, but first by what is needed already, where that does.
-pub(crate) fn cover_sparing<B: Bars>(
+fn cover_sparing<B: Bars>(
     alloc: Global,
     codes: &Codes,
     job: Job,
@@ -83,4 +84,48 @@ pub(crate) fn cover_sparing<B: Bars>(
     cover(
         alloc, codes, job, bars, best, log, store, side, block, code, needs,
     )
+}
+
+/// Covers one code of a block beside a side without a search below it, where that is possible: as above, or by a stored box
+/// that contains the side with the code.
+pub(crate) fn cover_known<B: Bars>(
+    alloc: Global,
+    codes: &Codes,
+    job: Job,
+    bars: &mut B,
+    best: &Option<Plan>,
+    log: &Log,
+    store: &Nogoods,
+    hints: &mut Hints,
+    side: &PlanBox,
+    block: u8,
+    code: u32,
+    needs: &mut Blocks,
+) -> Result<Coverage, NoMemory>
+    requires served { B.yard bars.old ≡ codes.now }
+    requires ready { IsReady (choices codes.now) job (state (B.bar bars.old) best.now log.now store.now) }
+    requires node { IsNode (choices codes.now) job side.now block code (code + 1) }
+    ensures served { B.yard bars.new ≡ codes.now }
+    ensures home { B.home bars.new ≡ B.home bars.old }
+    ensures runs { Runs (choices codes.now) job (state (B.bar bars.old) best.now log.now store.now)
+        (state (B.bar bars.new) best.now log.now store.now) }
+    ensures needs { (x : ℕ) → has needs.old x ≡ true → has needs.new x ≡ true }
+    ensures covered { IfOk result (IsCoverage (choices codes.now) job (state (B.bar bars.old) best.now log.now store.now)
+        (state (B.bar bars.new) best.now log.now store.now) side.now (has needs.new) block code) }
+{
+    let child = match cover_sparing(
+        alloc, codes, job, bars, best, log, store, side, block, code, needs,
+    )? {
+        Coverage::Done(covered) => return Ok(Coverage::Done(covered)),
+        Coverage::Open(child) => child,
+    };
+    let own = Literal::exact(block, code);
+    if let Some(place) = hints.find(codes, store, &child, own) {
+        if let Some(covered) = cover_by_box(
+            codes, job, store, side, block, code, &child, place, needs,
+        ) {
+            return Ok(Coverage::Done(covered));
+        }
+    }
+    Ok(Coverage::Open(child))
 }

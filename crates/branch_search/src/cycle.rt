@@ -14,7 +14,7 @@ ghost use Rattle.branch_kernel.specs.Covers.{CoversCode};
 
 use crate::Hints;
 use crate::choose::choose;
-use crate::covering::cover_sparing;
+use crate::covering::cover_known;
 use crate::fits::fitted;
 use crate::open::{first_open, open_or};
 use crate::own::{Settled, cites_of, note, own_code};
@@ -65,8 +65,8 @@ fn settle<B: Bars>(
         × IsShown (choices codes.now) (state (B.bar bars.old) best.old log.old store.old)
         (state (B.bar bars.new) best.new log.new store.new) r.covered.tie k side.now) }
 {
-    let child = match cover_sparing(
-        alloc, codes, job, bars, best, log, store, side, block, code, needs,
+    let child = match cover_known(
+        alloc, codes, job, bars, best, log, store, hints, side, block, code, needs,
     )? {
         Coverage::Done(covered) => {
             return Ok(Settled {

@@ -13,7 +13,7 @@ ghost use Rattle.branch_search.specs.Fits.{HasLowFit, IsBeatenSide};
 
 use crate::Hints;
 use crate::choose::{number_of, wanted};
-use branch_kernel::{Bars, Blocks, Shown, beats, copy, keep, write_fit};
+use branch_kernel::{Bars, Blocks, Shown, beats, copy, keep, keep_box, write_fit};
 use code_table::Codes;
 use nogood_store::Nogoods;
 use plan_rule::{Job, Plan, PlanBox};
@@ -168,7 +168,7 @@ fn beaten_side(
 }
 
 /// Refutes the box by its fit, where that beats it: the log gains one record, of the literals that the search takes for
-/// needed. None where the fit does not.
+/// needed, and the box of those may be stored. None where the fit does not.
 pub(crate) fn fitted<B: Bars>(
     alloc: Global,
     codes: &Codes,
@@ -177,22 +177,23 @@ pub(crate) fn fitted<B: Bars>(
     bars: &mut B,
     best: &Option<Plan>,
     log: &mut Log,
-    store: &Nogoods,
+    store: &mut Nogoods,
     hints: &mut Hints,
     part: &PlanBox,
 ) -> Result<Option<Shown>, NoMemory>
     requires tables { tables.now.yard ≡ codes.now }
     requires served { B.yard bars.old ≡ codes.now }
-    requires ready { IsReady (choices codes.now) job (state (B.bar bars.old) best.now log.old store.now) }
+    requires ready { IsReady (choices codes.now) job (state (B.bar bars.old) best.now log.old store.old) }
     requires part { IsBox (choices codes.now) part.now }
     ensures served { B.yard bars.new ≡ codes.now }
     ensures home { B.home bars.new ≡ B.home bars.old }
-    ensures runs { Runs (choices codes.now) job (state (B.bar bars.old) best.now log.old store.now)
-        (state (B.bar bars.new) best.now log.new store.now) }
+    ensures runs { Runs (choices codes.now) job (state (B.bar bars.old) best.now log.old store.old)
+        (state (B.bar bars.new) best.now log.new store.new) }
+    ensures prefix { store.new.prefix ≡ store.old.prefix }
     ensures shown { IfOk result (λ o. MatchOption o (HasLowFit (choices codes.now) part.now (B.bar bars.new / 2 ^ 32))
         (λ shown. (shown.number + 1 ≡ length log.new)
-        × IsShown (choices codes.now) (state (B.bar bars.old) best.now log.old store.now)
-        (state (B.bar bars.new) best.now log.new store.now) shown.tie shown.number part.now)) }
+        × IsShown (choices codes.now) (state (B.bar bars.old) best.now log.old store.old)
+        (state (B.bar bars.new) best.now log.new store.new) shown.tie shown.number part.now)) }
 {
     let bar = bars.see();
     hints.note_wanted(wanted(codes, bar, best, part));
@@ -201,5 +202,7 @@ pub(crate) fn fitted<B: Bars>(
     };
     let tie = beaten.tie;
     let number = write_fit(alloc, log, &beaten.side)?;
-    Ok(Some(Shown { number, tie }))
+    let shown = Shown { number, tie };
+    keep_box(store, beaten.side, shown);
+    Ok(Some(shown))
 }

@@ -1,8 +1,10 @@
 //! What a search keeps for its own choices.
 
 use crate::levels::{Level, levels_of};
+use crate::pairs::Pairs;
 use code_table::Codes;
-use plan_rule::block_count;
+use nogood_store::Nogoods;
+use plan_rule::{Literal, PlanBox, block_count};
 use shape_exact::NoMemory;
 use std::alloc::Global;
 
@@ -10,6 +12,7 @@ use std::alloc::Global;
 #[derive(Drop)]
 pub struct Hints {
     levels: Vec<Vec<Level>>,
+    pairs: Pairs,
     ranks: [u8; 32],
     wanted: u32,
     nodes: u64,
@@ -25,6 +28,7 @@ impl Hints {
         }
         Ok(Hints {
             levels,
+            pairs: Pairs::new(alloc)?,
             ranks: [0; 32],
             wanted: u32::MAX,
             nodes: 0,
@@ -49,6 +53,18 @@ impl Hints {
     /// A box is entered.
     pub(crate) fn enter(&mut self) {
         self.nodes = self.nodes.saturating_add(1);
+    }
+
+    /// The place in the store of a box that contains this box, if one is found: the box has the code `own`, and the
+    /// store is that of all searches that these hints serve.
+    pub(crate) fn find(
+        &mut self,
+        codes: &Codes,
+        store: &Nogoods,
+        part: &PlanBox,
+        own: Literal,
+    ) -> Option<u32> {
+        self.pairs.find(codes, store, part, own)
     }
 
     /// How many codes of a block cost how much, ascending by cost; none past the last block.

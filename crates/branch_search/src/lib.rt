@@ -15,6 +15,7 @@ mod hints;
 mod levels;
 mod open;
 mod own;
+mod pairs;
 mod search;
 
 pub use hints::Hints;

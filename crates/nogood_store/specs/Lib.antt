@@ -1,5 +1,4 @@
 pub mod Hits
-pub mod Containers
 pub mod Waits
 pub mod Places
 pub mod Among

@@ -9,7 +9,6 @@
 //! boxes is walked to find a hit.
 #![tactic(auto)]
 
-mod containers;
 mod hits;
 mod moves;
 mod nogood;

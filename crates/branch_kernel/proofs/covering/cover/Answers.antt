@@ -4,9 +4,8 @@ use Rattle.plan_rule.specs.Yards.{choices}
 use Rattle.tardiness_bounds.specs.Numbers.{number}
 use Rattle.branch_kernel.specs.States.{relied}
 use Rattle.branch_kernel.specs.Rivals.{Beats}
-use Rattle.branch_kernel.proofs.GrowthLaws.{grows_falls}
 use Rattle.branch_kernel.proofs.NodeLaws.{runs_self, runs_falls, child_of}
-use Rattle.branch_kernel.proofs.SettleLaws.{by_a_clash, by_a_piece, by_a_base, by_a_box}
+use Rattle.branch_kernel.proofs.SettleLaws.{by_a_clash, by_a_piece, by_a_base}
 use Rattle.branch_kernel.proofs.covering.cover.Goals as goal
 
 pub returns-in-Some-clause-runs : goal.returns-in-Some-clause-runs
@@ -44,14 +43,6 @@ pub returns-in-Some-beats-clause-covered : goal.returns-in-Some-beats-clause-cov
 returns-in-Some-beats-clause-covered g c =
     by_a_base (choices c.args.codes.now) c.args.job _ _ _ _ c.in_ok-child.child _ _ _ c.exact.result _ c.requires.ready.known c.requires.node c.add_all.ensures.added c.exact.ensures c.in_ok-child.ensures c.base.ensures
     (subst (λ bar. Beats (choices c.args.codes.now) bar (relied c.in-Some-beats.tie c.args.best.now) c.in_ok-child.child (number c.base.result)) c.see-bar.ensures.seen c.in-Some-beats.ensures.some)
-
-pub returns-in-Some-container-clause-runs : goal.returns-in-Some-container-clause-runs
-returns-in-Some-container-clause-runs g c = runs_falls (choices c.args.codes.now) _ _ _ _ _ _ c.requires.ready c.see-bar.ensures.falls
-
-pub returns-in-Some-container-clause-covered : goal.returns-in-Some-container-clause-covered
-returns-in-Some-container-clause-covered g c =
-    by_a_box (choices c.args.codes.now) c.args.job _ _ _ c.in_ok-child.child _ _ _ c.exact.result c.in-Some-container.known.now c.requires.ready.known c.requires.node c.add_all-in-Some-container.ensures.added
-    c.exact.ensures c.in_ok-child.ensures c.requires.ready.stored (grows_falls (choices c.args.codes.now) _ _ _ _ _ c.requires.ready.fits c.see-bar.ensures.falls) c.in-Some-container.ensures
 
 pub returns-clause-runs : goal.returns-clause-runs
 returns-clause-runs g c = runs_falls (choices c.args.codes.now) _ _ _ _ _ _ c.requires.ready c.see-bar.ensures.falls

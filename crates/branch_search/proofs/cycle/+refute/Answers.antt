@@ -249,6 +249,26 @@ along-returns-in_default-own_code-clause-shown g t c =
 pub along-returns-in_err-own-clause-runs : goal.along-returns-in_err-own-clause-runs
 along-returns-in_err-own-clause-runs g t c = runs_onto (choices c.args.codes.now) _ _ _ _ c.requires.ready c.fitted.ensures.runs c.settle.ensures.runs
 
+pub along-settle-requires : goal.along-settle-requires
+along-settle-requires g t c κs within =
+    let now : 6 * inexact (choices c.args.codes.now) c.args.side.now + 4 ≡ t = c.decreases in
+    let smaller : 6 * inexact (choices c.args.codes.now) c.args.side.now < t = omega arith in (
+      smaller,
+      (
+        within,
+        (
+          c.requires.tables,
+          (
+            c.fitted.ensures.served,
+            (
+              ready_later (choices c.args.codes.now) _ _ _ c.requires.ready c.fitted.ensures.runs,
+              node_at (choices c.args.codes.now) _ _ _ _ _ _ c.requires.node c.in-Some-own_code.ensures.0 c.in-Some-own_code.ensures.1,
+            ),
+          ),
+        ),
+      ),
+    )
+
 pub along-settle_range-requires : goal.along-settle_range-requires
 along-settle_range-requires g t c κs within =
     let now : 6 * inexact (choices c.args.codes.now) c.args.side.now + 4 ≡ t = c.decreases in
@@ -344,14 +364,14 @@ along-returns-clause-shown g t c =
     (asked_own (choices c.args.codes.now) c.args.side.now _ c.requires.node.side_is c.requires.node.clear none) handled (omega arith) cited c.close.ensures).1
 
 pub settle-returns-in_err-covered-2-clause-runs : goal.settle-returns-in_err-covered-2-clause-runs
-settle-returns-in_err-covered-2-clause-runs g t c = runs_onto (choices c.args.codes.now) _ _ _ _ c.requires.ready c.cover_sparing.ensures.runs c.cover_by_plan.ensures.runs
+settle-returns-in_err-covered-2-clause-runs g t c = runs_onto (choices c.args.codes.now) _ _ _ _ c.requires.ready c.cover_known.ensures.runs c.cover_by_plan.ensures.runs
 
 pub settle-returns-in_default-clause-runs : goal.settle-returns-in_default-clause-runs
-settle-returns-in_default-clause-runs g t c = runs_onto (choices c.args.codes.now) _ _ _ _ c.requires.ready c.cover_sparing.ensures.runs c.cover_by_plan.ensures.runs
+settle-returns-in_default-clause-runs g t c = runs_onto (choices c.args.codes.now) _ _ _ _ c.requires.ready c.cover_known.ensures.runs c.cover_by_plan.ensures.runs
 
 pub settle-returns-in_default-clause-covered : goal.settle-returns-in_default-clause-covered
 settle-returns-in_default-clause-covered g t c =
-    covers_from (choices c.args.codes.now) _ _ _ _ _ _ _ c.in_ok-covered-2.covered c.cover_sparing.ensures.runs.grows c.in_ok-covered-2.ensures.covered
+    covers_from (choices c.args.codes.now) _ _ _ _ _ _ _ c.in_ok-covered-2.covered c.cover_known.ensures.runs.grows c.in_ok-covered-2.ensures.covered
 
 pub settle-deeper-requires : goal.settle-deeper-requires
 settle-deeper-requires g t c κs within =
@@ -365,9 +385,9 @@ settle-deeper-requires g t c κs within =
         (
           c.requires.tables,
           (
-            c.cover_sparing.ensures.served,
+            c.cover_known.ensures.served,
             (
-              ready_later (choices c.args.codes.now) _ _ _ c.requires.ready c.cover_sparing.ensures.runs,
+              ready_later (choices c.args.codes.now) _ _ _ c.requires.ready c.cover_known.ensures.runs,
               (
                 child,
                 (c.in-Some.ensures.0, c.in-Some.ensures.1),
@@ -379,19 +399,19 @@ settle-deeper-requires g t c κs within =
     )
 
 pub settle-returns-in_err-shown-clause-runs : goal.settle-returns-in_err-shown-clause-runs
-settle-returns-in_err-shown-clause-runs g t c = runs_onto (choices c.args.codes.now) _ _ _ _ c.requires.ready c.cover_sparing.ensures.runs c.deeper.ensures.runs
+settle-returns-in_err-shown-clause-runs g t c = runs_onto (choices c.args.codes.now) _ _ _ _ c.requires.ready c.cover_known.ensures.runs c.deeper.ensures.runs
 
 pub settle-returns-clause-runs : goal.settle-returns-clause-runs
-settle-returns-clause-runs g t c = runs_onto (choices c.args.codes.now) _ _ _ _ c.requires.ready c.cover_sparing.ensures.runs c.deeper.ensures.runs
+settle-returns-clause-runs g t c = runs_onto (choices c.args.codes.now) _ _ _ _ c.requires.ready c.cover_known.ensures.runs c.deeper.ensures.runs
 
 pub settle-returns-clause-covered : goal.settle-returns-clause-covered
 settle-returns-clause-covered g t c =
     let (is, child) = opened (choices c.args.codes.now) c.args.job _ _ c.args.side.now _ c.args.block c.args.code _ c.in-Open.child c.in_ok-covered.ensures.covered c.in-Open.is in
     c.cover_by_record-covered.ensures.covered (state (g.B.Bars.bar c.args.bars.now) c.args.best.now c.args.log.now c.args.store.now)
-    (state (g.B.Bars.bar c.cover_sparing.new.bars) c.args.best.now c.args.log.now c.args.store.now)
+    (state (g.B.Bars.bar c.cover_known.new.bars) c.args.best.now c.args.log.now c.args.store.now)
     (state (g.B.Bars.bar c.deeper.new.bars) c.deeper.new.best c.deeper.new.log c.deeper.new.store) refl
-    (ready_later (choices c.args.codes.now) _ _ _ c.requires.ready c.cover_sparing.ensures.runs) c.requires.node c.cover_sparing.ensures.runs.grows
-    (subst (IsShown (choices c.args.codes.now) (state (g.B.Bars.bar c.cover_sparing.new.bars) c.args.best.now c.args.log.now c.args.store.now)
+    (ready_later (choices c.args.codes.now) _ _ _ c.requires.ready c.cover_known.ensures.runs) c.requires.node c.cover_known.ensures.runs.grows
+    (subst (IsShown (choices c.args.codes.now) (state (g.B.Bars.bar c.cover_known.new.bars) c.args.best.now c.args.log.now c.args.store.now)
     (state (g.B.Bars.bar c.deeper.new.bars) c.deeper.new.best c.deeper.new.log c.deeper.new.store) c.in_ok-shown.shown.tie c.in_ok-shown.shown.number) is c.in_ok-shown.ensures.shown.1)
 
 pub settle-returns-clause-jumped : goal.settle-returns-clause-jumped
@@ -407,7 +427,7 @@ settle-returns-clause-jumped g t c = λ jumps k cited.
     (state (g.B.Bars.bar c.deeper.new.bars) c.deeper.new.best c.deeper.new.log c.deeper.new.store) c.in_ok-shown.shown.tie k c.args.side.now) same (
       c.in_ok-shown.ensures.shown.0,
       jump_shown (choices c.args.codes.now) _ _ _ c.in_ok-shown.shown.tie c.args.side.now c.in-Open.child c.args.block c.args.code c.in_ok-shown.shown.number (exact c.args.block c.args.code) c.records.result.now c.index-records-shown.result
-          c.cover_sparing.ensures.runs.grows refl is c.in_ok-shown.ensures.shown.1 c.records.ensures.value c.index-records-shown.is
+          c.cover_known.ensures.runs.grows refl is c.in_ok-shown.ensures.shown.1 c.records.ensures.value c.index-records-shown.is
           (c.names-named.ensures (flipped c.names-named.result jumps)),
     ))
 
