@@ -1,5 +1,5 @@
 -- Open codes are those that fit and cost at most so much.
-use Rattle.std.proofs.Common.{◌≡◌, ℕ, ◌<◌, List, length, Option, Some, None, arith}
+use Rattle.std.proofs.Common.{◌≡◌, ℕ, ◌<◌, List, length, min, Option, Some, None, arith}
 use Rattle.std.specs.Prelude.{All}
 use Rattle.std.proofs.lemmas.Option.{slice_get_within}
 use Rattle.shape_exact.specs.Yards.{PlainYard}
@@ -54,3 +54,8 @@ first_fits yard list b most code end (Some x) l stand once free e (low, high, ch
       cheap_fits yard list b most x l stand free cheap,
       λ k from before fits. none k from before (fits_cheap yard list b most k l stand once free fits),
     )
+
+-- the first number from one that is cut off at the end of the range
+pub first_min : (P : ℕ → Type 0) (code end from : ℕ) (r : Option ℕ) → from ≡ min code end → IsFirst P from end r → IsFirst P code end r
+first_min P code end from None e h = λ k low high is. h k (omega arith) high is
+first_min P code end from (Some x) e (low, high, is, none) = (omega arith, high, is, λ k above below here. none k (omega arith) below here)

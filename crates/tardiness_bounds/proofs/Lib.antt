@@ -17,9 +17,9 @@ mod LeftLaws
 mod BestLaws
 mod MarkLaws
 mod SameLaws
-mod OpenLaws
-mod NumberLaws
-mod NextFreeLaws
 mod CheapLaws
 mod PigeonLaws
 mod BoxLaws
+mod StandLaws
+mod WalkLaws
+mod FreeCodesLaws

@@ -14,3 +14,6 @@ pub mod Lefts
 pub mod Stacks
 pub mod BestWindows
 pub mod Nexts
+pub mod Stands
+pub mod Walks
+pub mod FreeCodes

@@ -10,12 +10,6 @@ use Rattle.plan_rule.specs.Choices.{Choices}
 use Rattle.tardiness_bounds.specs.declared.standing.Standing.{Standing}
 use Rattle.tardiness_bounds.specs.Standings.{IsClear}
 
--- the placement has this start, this plate and this turn
-pub record IsStandOf (start plate turn : ℕ) (p : Placement) : Type 0 where
-  pub starts : p.start ≡ start
-  pub on : p.plate ≡ plate
-  pub turned : p.turn ≡ turn
-
 -- a placement of the block that is clear of the blocks that stand and of the pieces, and costs at most so much
 pub record IsOpen (yard : PlainYard) (list : List Standing) (b most : ℕ) (p : Placement) : Type 0 where
   pub block : Block

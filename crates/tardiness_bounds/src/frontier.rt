@@ -1,5 +1,5 @@
 //! The fit of a box of exact literals that grows and shrinks.
-ghost use Rattle.std.specs.Prelude.{◌≡◌, true, false, ◌<◌, ◌≤◌, ◌++◌, ◌∷◌, [], All, length, take, ◌-◌, IfOk, IfSome};
+ghost use Rattle.std.specs.Prelude.{◌≡◌, true, false, ◌<◌, ◌≤◌, ◌++◌, ◌∷◌, [], All, length, min, take, ◌-◌, IfOk, IfSome};
 ghost use Rattle.plan_rule.specs.Bounds.{IsFit, IsLeastOf, MayFit};
 ghost use Rattle.plan_rule.specs.Boxes.{exact, LeavesFree};
 ghost use Rattle.plan_rule.specs.Choices.{IsCode, blocks, count};
@@ -13,11 +13,12 @@ ghost use Rattle.tardiness_bounds.specs.Standings.{IsClearAt, IsStanding, StandO
 
 use crate::apart::are_apart;
 use crate::bound::{Bound, bound_of};
+use crate::free_codes::FreeCodes;
 use crate::left::{Left, first_lefts, next_lefts};
 use crate::near::near_to;
-use crate::next::next_from;
 use crate::standing::Standing;
 use crate::tables::YardTables;
+use crate::walk::{next_code, walk_from};
 use arrayvec::ArrayVec;
 use code_table::Codes;
 use plan_rule::block_count;
@@ -248,14 +249,29 @@ impl<'a> Frontier<'a> {
         least_in(self.tables, list, lefts, block)
     }
 
-    /// The next code of a block without a literal, from `code` on, that clashes with no literal and costs at most `most`.
-    /// None where there is none. Starts, plates and turns are walked in the order of the codes; in each the first clear
-    /// position is sought by rows of obstacles. Takes no memory.
+    /// The next code of a block without a literal, from `code` on, that clashes with no literal, meets no piece and costs at
+    /// most `most`. None where there is none. Takes no memory. To go on from there, `free_codes` keeps where it stands.
     pub fn next_free(&self, block: u8, code: u32, most: u32) -> Option<u32>
         requires block { block < blocks (choices self.now.yard) }
         requires free { LeavesFree self.now.literals block }
         ensures { IsFirst (MayFitUpTo (choices self.now.yard) self.now.literals block most) code (count (choices self.now.yard) block) result }
     {
-        next_from(self.tables, self.list.as_slice(), block, code, most)
+        let mut walk = walk_from(code.min(self.tables.codes().count(block)));
+        next_code(self.tables, self.list.as_slice(), block, most, &mut walk)
+    }
+
+    /// All those codes, ascending. Each is found from where the last one stands: codes that share their start, plate and
+    /// turn are walked by rows, and those that cost too much are passed over. Takes no memory.
+    pub fn free_codes(&self, block: u8, code: u32, most: u32) -> FreeCodes<'_>
+        requires block { block < blocks (choices self.now.yard) }
+        requires free { LeavesFree self.now.literals block }
+        ensures yard { result.yard ≡ self.now.yard }
+        ensures literals { result.literals ≡ self.now.literals }
+        ensures block { result.block ≡ block }
+        ensures most { result.most ≡ most }
+        ensures from { result.from ≡ min code (count (choices self.now.yard) block) }
+    {
+        let from = code.min(self.tables.codes().count(block));
+        FreeCodes::of(self.tables, self.list.as_slice(), block, from, most)
     }
 }

@@ -143,7 +143,8 @@ fn early_is_cheaper_than_late(rt: HostRuntime) -> Result<(), Fail> {
     Ok(())
 }
 
-/// A square of side 3 beside another on a plate of 4 by 3: it starts when the other has ended.
+/// A square of side 3 beside another on a plate of 4 by 3: it starts when the other has ended. Each start has two codes;
+/// on day 2 they cost 10, and on day 3 they cost 15.
 #[test]
 fn a_frontier_grows_and_shrinks(rt: HostRuntime) -> Result<(), Fail> {
     let alloc = rt.alloc();
@@ -172,6 +173,13 @@ fn a_frontier_grows_and_shrinks(rt: HostRuntime) -> Result<(), Fail> {
     assert_eq!(rt; frontier.next_free(1, 0, u32::MAX), Some(4));
     assert_eq!(rt; frontier.next_free(1, 5, 10), Some(5));
     assert_eq!(rt; frontier.next_free(1, 0, 9), None);
+    let mut free = frontier.free_codes(1, 0, 15);
+    assert_eq!(rt; free.next(), Some(4));
+    assert_eq!(rt; free.next(), Some(5));
+    assert_eq!(rt; free.next(), Some(6));
+    assert_eq!(rt; free.next(), Some(7));
+    assert_eq!(rt; free.next(), None);
+    assert_eq!(rt; free.next(), None);
     frontier.pop();
     assert_eq!(rt; frontier.bound(), Number(0));
     Ok(())

@@ -10,6 +10,29 @@ use std::alloc::Global;
 use std::process::Abort;
 use std::test::Fail;
 
+/// The free codes from a code on are those of the definition, one after another.
+fn agrees_from(
+    rt: &impl Abort,
+    frontier: &Frontier<'_>,
+    literals: &[(u8, u32)],
+    block: u8,
+    code: u32,
+    most: u32,
+) {
+    let codes = frontier.codes();
+    assert!(rt; frontier.can_push(block, code));
+    let mut at = code;
+    for found in frontier.free_codes(block, code, most) {
+        let next = plain::next_free(rt, codes, literals, block, at, most);
+        assert_eq!(rt; Some(found), next);
+        at = found.wrapping_add(1);
+    }
+    assert_eq!(rt;
+        plain::next_free(rt, codes, literals, block, at, most),
+        None
+    );
+}
+
 /// The frontier answers of a block what the definition says.
 fn agrees_on(
     rt: &impl Abort,
@@ -38,6 +61,7 @@ fn agrees_on(
                 found,
                 plain::next_free(rt, codes, literals, block, code, most)
             );
+            agrees_from(rt, frontier, literals, block, code, most);
         }
     } else {
         assert!(rt; plain::exact_at(literals, block).is_some());
