@@ -1,4 +1,5 @@
 pub mod Hits
+pub mod Containers
 pub mod Waits
 pub mod Places
 pub mod Among

@@ -9,6 +9,7 @@
 //! boxes is walked to find a hit.
 #![tactic(auto)]
 
+mod containers;
 mod hits;
 mod moves;
 mod nogood;

@@ -1,12 +1,16 @@
 //! The store.
 ghost use Rattle.std.specs.Prelude.{◌≡◌, ◌-◌, ◌<◌, ◌≤◌, [], ◌∷◌, ◌++◌, length, slice_get, take, All, if◌then◌else◌, is_ok, IfOk, MatchOption, Some};
+ghost use Rattle.nogood_store.specs.Containers.{IsFirstContainer, NoneContains};
 ghost use Rattle.nogood_store.specs.Hits.{IsHit, last_tag};
+ghost use Rattle.plan_rule.specs.Yards.{choices};
 
 use crate::Nogood;
+use crate::containers::first_container;
 use crate::hits::least_on;
 use crate::moves::rewind;
 use crate::trail::{Trail, enter, enter_again};
 use crate::waits::first_block;
+use code_table::Codes;
 use plan_rule::PlanBox;
 use shape_exact::NoMemory;
 use std::alloc::Global;
@@ -162,6 +166,16 @@ impl Nogoods {
             code,
             matched,
         )
+    }
+
+    /// The first stored box that contains the given one, whatever blocks its literals are on; None exactly where none
+    /// does. It looks at one box after another, so it costs the number of boxes. Takes no memory.
+    pub fn container(&self, codes: &Codes, part: &PlanBox) -> Option<&Nogood>
+        ensures { MatchOption result
+            (NoneContains (choices codes.now) self.now.nogoods part.now (length self.now.nogoods))
+            (λ n. IsFirstContainer (choices codes.now) self.now.nogoods part.now n.now) }
+    {
+        first_container(codes, self.list.as_slice(), part)
     }
 
     /// The box that stands at this place of the list, the first at 0; None exactly where the list ends before it. Takes no
