@@ -21,9 +21,9 @@ use refutation_log::{Cites, Record};
 use shape_exact::NoMemory;
 use std::alloc::Global;
 
-/// The first code of the range that nothing covers beside the side: it clashes with no code that the side fixes, the
-/// base does not refute the side with it, and no cited record's box covers the side with it. None where each code is
-/// covered.
+/// The first code of the range that nothing covers beside the side: it clashes with no code that the side fixes and meets no
+/// piece, the base does not refute the side with it, and no cited record's box covers the side with it. None where each
+/// code is covered.
 pub(crate) fn branch_fault(
     alloc: Global,
     codes: &Codes,

@@ -6,6 +6,9 @@
 //! what it should show. A branch is asked code by code (`branch`, `uncovered`): the spans of codes that citations, the base
 //! and ties cover (`cited`, `cut`, `ties`, `span`), and walks over the others (`walk`) beside what stands near (`exact`,
 //! `near`). The bounds are `base`, `rest`, `fit` with `free`, and `energy` with `window`; `refute` says when one refutes.
+//!
+//! From record to record two things are kept: whether turned footprints at an offset are apart (`offset`), and of each block
+//! how many of its first codes are hindered beside exact blocks that a side has again (`passed`).
 #![tactic(auto)]
 
 mod base;

@@ -62,17 +62,18 @@ fn are_apart(codes: &Codes, of: Offset) -> bool
 }
 
 impl Offset {
-    /// The number of its slot.
+    /// The number of its slot: the upper bits of a product, so that near offsets lie far from one another.
     fn slot(self) -> usize {
         let first = u32::from(self.first) * 4 + u32::from(self.first_turn);
         let second = u32::from(self.second) * 4 + u32::from(self.second_turn);
         let x = self.way.x.wrapping_add(1024).unsigned_abs();
         let y = self.way.y.wrapping_add(1024).unsigned_abs();
-        let pair = first
-            .wrapping_mul(12289)
-            .wrapping_add(second.wrapping_mul(4099));
-        let way = x.wrapping_mul(37).wrapping_add(y.wrapping_mul(1021));
-        (pair.wrapping_add(way) % SLOTS) as usize
+        let pair = first.wrapping_mul(128).wrapping_add(second);
+        let way = x.wrapping_mul(2048).wrapping_add(y);
+        let mixed = pair
+            .wrapping_mul(2_246_822_507)
+            .wrapping_add(way.wrapping_mul(2_654_435_761));
+        (mixed >> 17) as usize
     }
 }
 
