@@ -1,5 +1,5 @@
 -- What a checker says of a log: that it is accepted, or the first reason why it is not.
-use Rattle.std.specs.Prelude.{◌≡◌, ℕ, ◌+◌, ◌<◌, ◌≤◌, List, [], Option, Some, None, length, slice_get, take}
+use Rattle.std.specs.Prelude.{◌≡◌, ℕ, ◌+◌, ◌<◌, ◌≤◌, List, [], Option, Some, None, MatchOption, length, slice_get, take}
 use Rattle.plan_rule.specs.declared.literal.Literal.{Literal}
 use Rattle.plan_rule.specs.Choices.{Choices}
 use Rattle.plan_rule.specs.Plans.{IsAnswer, HasNoClash}
@@ -43,6 +43,17 @@ abbrev pub HasLowBound : Choices → Option (List ℕ) → Record → ℕ → Ty
 HasLowBound c t (Branch b lo hi side cites) n = ⊥
 HasLowBound c t (Fit side) n = IsFit c side (Some n) × (Refutes c t side (Some n) → ⊥)
 HasLowBound c t (Energy from to side) n = IsEnergy c from to side (Some n) × (Refutes c t side (Some n) → ⊥)
+
+-- of a bound that is none: it refutes the side; of a number: it is the bound, and does not
+abbrev pub TellsBound : (Option ℕ → Type 0) → Choices → Option (List ℕ) → List Literal → Option ℕ → Type 0
+TellsBound IsBound c t side found =
+    MatchOption found ((k : Option ℕ) × IsBound k × Refutes c t side k) (λ n. IsBound (Some n) × (Refutes c t side (Some n) → ⊥))
+
+-- of no code: each of the branch is covered; of a code: it is the first that nothing covers
+abbrev pub TellsCovered : Choices → Option (List ℕ) → List Record → ℕ → ℕ → ℕ → List Literal → List ℕ → Option ℕ → Type 0
+TellsCovered c t earlier b lo hi side cites found =
+    MatchOption found ((code : ℕ) → lo ≤ code → code < hi → IsCovered c t earlier side cites b code)
+    (IsFirstUncovered c t earlier b lo hi side cites)
 
 -- why a record is no step after the earlier ones: first its form, then its citations, then what it should show
 abbrev pub IsFault : Choices → Option (List ℕ) → List Record → Record → Refused → Type 0

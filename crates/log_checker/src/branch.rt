@@ -1,13 +1,13 @@
 //! Branches: whether each code of a range is covered.
-ghost use Rattle.std.specs.Prelude.{◌<◌, ◌≤◌, ℕ, All, IfOk, MatchOption, length};
+ghost use Rattle.std.specs.Prelude.{◌<◌, All, IfOk, length};
 ghost use Rattle.plan_rule.specs.Choices.{blocks};
 ghost use Rattle.plan_rule.specs.Boxes.{IsBox, LeavesFree};
 ghost use Rattle.plan_rule.specs.Yards.{choices};
-ghost use Rattle.refutation_log.specs.Steps.{IsCovered, IsRange};
+ghost use Rattle.refutation_log.specs.Steps.{IsRange};
 ghost use Rattle.log_checker.specs.Claims.{IsClaim, plan_of};
 ghost use Rattle.log_checker.specs.Forms.{HasForm};
 ghost use Rattle.log_checker.specs.Offsets.{AreTold};
-ghost use Rattle.log_checker.specs.Verdicts.{IsFirstUncovered};
+ghost use Rattle.log_checker.specs.Verdicts.{TellsCovered};
 
 use crate::cited::spans_of;
 use crate::claim::Claim;
@@ -44,11 +44,8 @@ pub(crate) fn branch_fault(
     requires free { LeavesFree side.now block }
     requires range { IsRange (choices codes.now) block lo hi }
     requires cites { All (λ k. k < length earlier.now) cites.now }
-    ensures value { IfOk result (λ found. MatchOption found
-        ((code : ℕ) → lo ≤ code → code < hi
-        → IsCovered (choices codes.now) (plan_of claim.entry) earlier.now side.now cites.now block code)
-        (λ code. IsFirstUncovered (choices codes.now) (plan_of claim.entry) earlier.now block lo hi
-        side.now cites.now code)) }
+    ensures value { IfOk result
+        (TellsCovered (choices codes.now) (plan_of claim.entry) earlier.now block lo hi side.now cites.now) }
     ensures told { AreTold codes.now offsets.new }
 {
     let cut = cut_of(codes, claim, side, block);

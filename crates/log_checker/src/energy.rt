@@ -1,12 +1,13 @@
 //! The energy of a side in a window of days.
-ghost use Rattle.std.specs.Prelude.{◌≡◌, ◌≤◌, ◌<◌, ◌^◌, ℕ, IfSome, MatchOption, Option, Some};
+ghost use Rattle.std.specs.Prelude.{◌≡◌, ◌≤◌, ◌<◌, ◌^◌, IfSome};
 ghost use Rattle.plan_rule.specs.Choices.{blocks};
 ghost use Rattle.plan_rule.specs.Fronts.{HasCodes};
 ghost use Rattle.plan_rule.specs.Boxes.{IsBox};
-ghost use Rattle.plan_rule.specs.Bounds.{IsEnergy, Refutes};
+ghost use Rattle.plan_rule.specs.Bounds.{IsEnergy};
 ghost use Rattle.plan_rule.specs.Yards.{choices};
 ghost use Rattle.code_table.specs.Costs.{lesser};
 ghost use Rattle.log_checker.specs.Claims.{IsClaim, plan_of};
+ghost use Rattle.log_checker.specs.Verdicts.{TellsBound};
 ghost use Rattle.log_checker.specs.Windows.{IsLeastRaiseOf, IsRaiseIn};
 
 use crate::base::base;
@@ -90,11 +91,7 @@ pub(crate) fn energy_fault(
     requires side { IsBox (choices codes.now) side.now }
     requires window { from ≤ to }
     requires days { to < (choices codes.now).days }
-    ensures { MatchOption result
-        ((k : Option ℕ) × IsEnergy (choices codes.now) from to side.now k
-        × Refutes (choices codes.now) (plan_of claim.entry) side.now k)
-        (λ n. IsEnergy (choices codes.now) from to side.now (Some n)
-        × (Refutes (choices codes.now) (plan_of claim.entry) side.now (Some n) → ⊥)) }
+    ensures { TellsBound (IsEnergy (choices codes.now) from to side.now) (choices codes.now) (plan_of claim.entry) side.now result }
 {
     fault(codes, claim, side, energy(codes, side, Window { from, to }))
 }

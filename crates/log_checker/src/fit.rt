@@ -1,14 +1,15 @@
 //! The fit of a side.
-ghost use Rattle.std.specs.Prelude.{◌≡◌, ◌<◌, ◌≤◌, All, Contains, None, Option, MatchOption, Some, length, ℕ, if◌then◌else◌, nat_le};
+ghost use Rattle.std.specs.Prelude.{◌≡◌, ◌<◌, ◌≤◌, All, Contains, None, MatchOption, Some, length, if◌then◌else◌, nat_le};
 ghost use Rattle.plan_rule.specs.Choices.{blocks};
 ghost use Rattle.plan_rule.specs.Boxes.{IsBox};
-ghost use Rattle.plan_rule.specs.Bounds.{IsFit, Refutes};
+ghost use Rattle.plan_rule.specs.Bounds.{IsFit};
 ghost use Rattle.plan_rule.specs.Yards.{choices};
 ghost use Rattle.log_checker.specs.Claims.{IsClaim, plan_of};
 ghost use Rattle.log_checker.specs.ExactBlocks.{AreExact, IsStanding};
 ghost use Rattle.log_checker.specs.Leasts.{IsFitUpTo, IsLeastFit};
 ghost use Rattle.log_checker.specs.Offsets.{AreTold};
 ghost use Rattle.log_checker.specs.PassedCodes.{ArePassed};
+ghost use Rattle.log_checker.specs.Verdicts.{TellsBound};
 
 use crate::base::base;
 use crate::claim::Claim;
@@ -108,11 +109,7 @@ pub(crate) fn fit_fault(
     requires kept { ArePassed codes.now passed.old }
     requires claim { IsClaim (choices codes.now) claim }
     requires side { IsBox (choices codes.now) side.now }
-    ensures value { MatchOption result
-        ((k : Option ℕ) × IsFit (choices codes.now) side.now k
-        × Refutes (choices codes.now) (plan_of claim.entry) side.now k)
-        (λ n. IsFit (choices codes.now) side.now (Some n)
-        × (Refutes (choices codes.now) (plan_of claim.entry) side.now (Some n) → ⊥)) }
+    ensures value { TellsBound (IsFit (choices codes.now) side.now) (choices codes.now) (plan_of claim.entry) side.now result }
     ensures told { AreTold codes.now offsets.new }
     ensures kept { ArePassed codes.now passed.new }
 {
