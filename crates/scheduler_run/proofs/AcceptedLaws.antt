@@ -1,5 +1,5 @@
 -- A yard that the reader accepts can be planned: it has a plate and a block, and no block has too many placements.
-use Rattle.std.proofs.Common.{◌≡◌, ℕ, zero, ◌+◌, ◌<◌, ◌≤◌, Bool, true, false, cond, List, [], ◌∷◌, ◌++◌, length, Option, Some, None, Result, Ok, Err, refl, ap, subst, ◌∙◌, arith, length-append}
+use Rattle.std.proofs.Common.{◌≡◌, ℕ, zero, ◌+◌, ◌<◌, ◌≤◌, Bool, true, false, cond, List, [], ◌∷◌, ◌++◌, length, Option, Some, None, Result, Ok, Err, refl, sym, ap, subst, ◌∙◌, arith, length-append}
 use Rattle.std.specs.Prelude.{nat_lt, if◌then◌else◌, IfOk}
 use Rattle.std.proofs.lemmas.Bool.{ltb-false}
 use Rattle.toml.specs.Data.{Items, no_items, item, Members}
@@ -23,6 +23,8 @@ use Rattle.yard_file.specs.declared.place.At.TheVariants as places
 use Rattle.yard_file.specs.declared.place.Key.TheVariants as keys
 use Rattle.yard_file.specs.declared.fault.YardFault.{YardFault}
 use Rattle.yard_file.specs.declared.fault.YardFault.TheVariants.{TooLong, NoPlate, TooManyPlates, NoBlock, TooManyBlocks, TooManyPlacements}
+use Rattle.yard_generator.specs.Texts.{yard_text}
+use Rattle.yard_generator.specs.Yards.{drawn_yard}
 use Rattle.scheduler_run.specs.Accepted.{CanBePlanned}
 
 -- where two steps give a value, the first gives one, from which the second gives it
@@ -180,3 +182,8 @@ can_be_planned bytes yard e =
 pub reads_planned : (bytes : List ℕ) (answer : Result PlainYard YardFault) → Gives answer (yard_of bytes) → IfOk answer CanBePlanned
 reads_planned bytes (Ok yard) is = can_be_planned bytes yard is
 reads_planned bytes (Err fault) is = tt
+
+-- a generated yard can be planned, since its text is read as it
+pub drawn_planned : (seed blocks : ℕ) (yard : PlainYard) → yard ≡ drawn_yard seed blocks
+    → yard_of (yard_text seed blocks) ≡ Ok (drawn_yard seed blocks) → CanBePlanned yard
+drawn_planned seed blocks yard same read = can_be_planned (yard_text seed blocks) yard (read ∙ ap Ok (sym same))

@@ -1,8 +1,9 @@
 -- The usage line is the answer exactly to words that are no command, and no answer makes another file than its command names.
-use Rattle.std.proofs.Common.{◌≡◌, ◌≢◌, ℕ, List, Option, Some, None, Result, Ok, Err, ◌↔◌, ◌⊎◌, inl, inr, IfSome, refl, sym, ap, subst, ◌∙◌}
+use Rattle.std.proofs.Common.{◌≡◌, ◌≢◌, ℕ, List, Option, Some, None, Result, Ok, Err, ◌↔◌, ◌⊎◌, inl, inr, refl, sym, ap, subst, ◌∙◌}
 use Rattle.shape_exact.specs.Yards.{PlainYard}
 use Rattle.yard_io.specs.Desk.{Files}
 use Rattle.yard_file.specs.Reads.{yard_of}
+use Rattle.yard_generator.specs.Yards.{drawn_yard}
 use Rattle.yard_file.specs.declared.fault.YardFault.{YardFault}
 use Rattle.plan_text.specs.Reading.{plan_of}
 use Rattle.plan_text.specs.declared.fault.PlanFault.{PlanFault}
@@ -11,9 +12,10 @@ use Rattle.refutation_log.specs.declared.fault.LogFault.{LogFault}
 use Rattle.refutation_log.specs.declared.record.Record.{Record}
 use Rattle.log_checker.specs.declared.verdict.Verdict.{Verdict}
 use Rattle.log_checker.specs.declared.verdict.Verdict.TheVariants.{Accepted, Refused}
-use Rattle.scheduler_run.specs.Words.{Asked, AsksPlan, AsksCheck, AsksGen, asked}
+use Rattle.scheduler_run.specs.Words.{Asked, AsksPlan, AsksCheck, AsksGen, AsksLoad, asked}
 use Rattle.scheduler_run.specs.Outcomes.{Text, Outcome, KeepsBut}
 use Rattle.scheduler_run.specs.PlanAnswers.{AnswersYard, status_of}
+use Rattle.scheduler_run.specs.LoadAnswers.{SumsUp}
 use Rattle.scheduler_run.specs.CheckAnswers.{ChecksYard, ChecksPlan, ChecksLog, SaysVerdict}
 use Rattle.scheduler_run.specs.Answers.{AnswersAsked, Answers, KeepsOthers, made_by}
 
@@ -54,11 +56,17 @@ checked_is : (read : Result PlainYard YardFault) (plan log : List ℕ) (outcome 
 checked_is (Err fault) plan log outcome answer = unmade None outcome 1 answer.0 answer.1 (λ (wrong : 1 ≡ 2). cc)
 checked_is (Ok yard) plan log outcome answer = plan_is yard (plan_of yard plan) log outcome answer
 
+loaded_is : (seed number : ℕ) (yard : PlainYard) (outcome : Outcome) → SumsUp seed number yard outcome → IsOf None outcome
+loaded_is seed number yard outcome answer =
+    record { made = inl answer.made_is; status = plan_status answer.best outcome.status answer.status_is }
+
 command_is : (what : Asked) (file : Files) (outcome : Outcome) → AnswersAsked (Some what) file outcome → IsOf (made_by (Some what)) outcome
 command_is (AsksPlan yard log workers split) file outcome answer = yard_is (yard_of answer.bytes) log outcome answer.answer
 command_is (AsksCheck yard plan log) file outcome answer =
     checked_is (yard_of answer.yard_bytes) answer.plan_bytes answer.log_bytes outcome answer.answer
 command_is (AsksGen seed blocks) file outcome answer = unmade None outcome 0 answer.0 answer.1 (λ (wrong : 0 ≡ 2). cc)
+command_is (AsksLoad seed blocks workers) file outcome answer =
+    loaded_is seed blocks (drawn_yard seed blocks) outcome answer
 
 asked_status : (what : Option Asked) (file : Files) (outcome : Outcome) → AnswersAsked what file outcome
     → (outcome.status ≡ 2) ↔ (what ≡ None)

@@ -1,4 +1,5 @@
 pub mod AcceptedLaws
 pub mod AnswerLaws
 pub mod FileLaws
+pub mod LoadLaws
 pub mod OutcomeLaws

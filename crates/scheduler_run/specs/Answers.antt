@@ -1,12 +1,13 @@
 -- What a run makes and says, with which status, and when it is cut short.
 use Rattle.std.specs.Prelude.{◌≡◌, ◌≢◌, ℕ, Bool, List, ◌⊎◌, Option, Some, None}
-use Rattle.yard_io.specs.Desk.{Files, Same, SameFiles}
-use Rattle.scheduler_run.specs.Words.{Asked, AsksPlan, AsksCheck, AsksGen, asked}
+use Rattle.yard_io.specs.Desk.{Files, Same}
+use Rattle.scheduler_run.specs.Words.{Asked, AsksPlan, AsksCheck, AsksGen, AsksLoad, asked}
 use Rattle.scheduler_run.specs.Outcomes.{Outcome, Wrote, WroteFront}
 use Rattle.scheduler_run.specs.Refusals.{IsUsage}
 use Rattle.scheduler_run.specs.PlanAnswers.{AnswersFile}
 use Rattle.scheduler_run.specs.CheckAnswers.{ChecksFiles, HaveBest}
 use Rattle.scheduler_run.specs.GenAnswers.{SaysYard}
+use Rattle.scheduler_run.specs.LoadAnswers.{LoadsDrawn}
 
 -- the answer to what is asked for: a command is answered by its files and numbers, and other words by the usage line
 abbrev pub AnswersAsked : Option Asked → Files → Outcome → Type 0
@@ -14,6 +15,7 @@ AnswersAsked None file outcome = IsUsage outcome
 AnswersAsked (Some (AsksPlan yard log workers split)) file outcome = AnswersFile (file yard) log outcome
 AnswersAsked (Some (AsksCheck yard plan log)) file outcome = ChecksFiles (file yard) (file plan) (file log) outcome
 AnswersAsked (Some (AsksGen seed blocks)) file outcome = SaysYard seed blocks outcome
+AnswersAsked (Some (AsksLoad seed blocks workers)) file outcome = LoadsDrawn seed blocks outcome
 
 -- the answer to the words
 abbrev pub Answers : List (List ℕ) → Files → Outcome → Type 0

@@ -2,6 +2,7 @@ pub mod Accepted
 pub mod Answers
 pub mod CheckAnswers
 pub mod GenAnswers
+pub mod LoadAnswers
 pub mod Outcomes
 pub mod PlanAnswers
 pub mod Refusals

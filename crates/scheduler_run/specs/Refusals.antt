@@ -4,7 +4,7 @@ use Rattle.scheduler_run.specs.Outcomes.{Outcome}
 
 -- the usage line
 abbrev pub usage_line : List ℕ
-usage_line = codes "usage: plan YARD LOG WORKERS SPLIT | check YARD PLAN LOG | gen SEED BLOCKS" ++ 10 ∷ []
+usage_line = codes "usage: plan YARD LOG WORKERS SPLIT | check YARD PLAN LOG | gen SEED BLOCKS | load SEED BLOCKS WORKERS" ++ 10 ∷ []
 
 -- the usage line is said with status 2
 abbrev pub IsUsage : Outcome → Type 0

@@ -7,6 +7,7 @@
 mod check_command;
 mod command;
 mod gen_command;
+mod load_command;
 mod plan_command;
 mod reply;
 mod status;

@@ -32,7 +32,7 @@ pub(crate) fn usage<'a>(alloc: Global) -> Result<Reply<'a>, NoMemory>
         made: None,
         said: Vec::from_slice(
             alloc,
-            b"usage: plan YARD LOG WORKERS SPLIT | check YARD PLAN LOG | gen SEED BLOCKS\n",
+            b"usage: plan YARD LOG WORKERS SPLIT | check YARD PLAN LOG | gen SEED BLOCKS | load SEED BLOCKS WORKERS\n",
         )?,
     })
 }

@@ -6,6 +6,7 @@ mod checks;
 mod crews;
 mod early;
 mod failing;
+mod loads;
 mod logs;
 mod outside;
 mod regions;
@@ -23,7 +24,8 @@ use yard_file::read_yard;
 use yard_io::{OpenGate, QuietDesk, RealDesk};
 use yards::*;
 
-const USAGE: &str = "usage: plan YARD LOG WORKERS SPLIT | check YARD PLAN LOG | gen SEED BLOCKS\n";
+const USAGE: &str =
+    "usage: plan YARD LOG WORKERS SPLIT | check YARD PLAN LOG | gen SEED BLOCKS | load SEED BLOCKS WORKERS\n";
 
 const NOT_TOML: &str = "refused yard 2 NotToml\n";
 
@@ -32,7 +34,7 @@ const PLAN: &[&str] = &["plan", "y", "l", "1", "0"];
 
 #[test]
 fn words_and_bytes(rt: HostRuntime) -> Result<(), Fail> {
-    let cases: [(&[&str], &[u8], u8, &str); 20] = [
+    let cases: [(&[&str], &[u8], u8, &str); 27] = [
         (&[], b"", 2, USAGE),
         (&["plan"], b"", 2, USAGE),
         (&["plan", "y"], b"", 2, USAGE),
@@ -50,6 +52,13 @@ fn words_and_bytes(rt: HostRuntime) -> Result<(), Fail> {
         (&["gen", "2147483648", "1"], b"", 2, USAGE),
         (&["gen", "01", "1"], b"", 2, USAGE),
         (&["gen", "+1", "1"], b"", 2, USAGE),
+        (&["load", "1", "1"], b"", 2, USAGE),
+        (&["load", "1", "0", "1"], b"", 2, USAGE),
+        (&["load", "1", "33", "1"], b"", 2, USAGE),
+        (&["load", "1", "1", "0"], b"", 2, USAGE),
+        (&["load", "1", "1", "17"], b"", 2, USAGE),
+        (&["load", "2147483648", "1", "1"], b"", 2, USAGE),
+        (&["load", "1", "1", "01"], b"", 2, USAGE),
         (PLAN, b"version = 1\ndays = ", 1, NOT_TOML),
         (PLAN, b"version = \xff\n", 1, NOT_TOML),
         (

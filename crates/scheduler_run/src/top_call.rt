@@ -10,6 +10,7 @@ use crate::Status;
 use crate::check_command::reply_to_check;
 use crate::command::{Command, command_of};
 use crate::gen_command::reply_to_gen;
+use crate::load_command::reply_to_load;
 use crate::plan_command::reply_to_plan;
 use crate::reply::{Reply, usage, write_reply};
 use std::alloc::Global;
@@ -46,6 +47,13 @@ fn reply_to<'a, R: Threads + Sync, D: Desk, G: Gate + Sync>(
         ) => { reply_to_plan(rt, alloc, gate, yard, workers, split, log, desk) }
         Some(Command::Check { yard, plan, log }) => reply_to_check(alloc, yard, plan, log, desk),
         Some(Command::Gen { seed, blocks }) => Ok(reply_to_gen(alloc, seed, blocks)?),
+        Some(
+            Command::Load {
+                seed,
+                blocks,
+                workers,
+            },
+        ) => Ok(reply_to_load(rt, alloc, gate, seed, blocks, workers)?),
         None => Ok(usage(alloc)?),
     }
 }

@@ -85,7 +85,7 @@ fn one_length_then_reads_then_what_is_said(rt: HostRuntime) -> Result<(), Fail> 
                 Call::Say,
             ],
         ),
-        (&["plan"], 2, &[Call::Say; 10]),
+        (&["plan"], 2, &[Call::Say; 13]),
     ];
     for (words, status, calls) in cases {
         let Some(mut desk) = watched(rt.alloc(), &[CUT_OFF], 0, 1_000) else {
