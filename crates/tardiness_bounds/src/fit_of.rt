@@ -28,7 +28,7 @@ pub fn fit_among(alloc: Global, tables: &YardTables<'_>, part: &PlanBox) -> Resu
 }
 
 /// The fit of the box: the own costs of its exact literals, and of each other block the least own cost of its codes that
-/// clash with none of them. Never where a block has no such code. Codes are not listed: a block's starts are walked in the
+/// clash with none of them and meet no piece. Never where a block has no such code. Codes are not listed: a block's starts are walked in the
 /// order of their costs, and on each the first free position is sought by rows of obstacles.
 pub fn fit(alloc: Global, codes: &Codes, part: &PlanBox) -> Result<Bound, NoMemory>
     requires { IsBox (choices codes.now) part.now }

@@ -138,7 +138,8 @@ fn is_clear(tables: &YardTables<'_>, list: &[Standing], block: u8, code: u32) ->
 {
     let _yard = tables.codes().yard();
     let new = standing_at(tables, block, code);
-    let near = near_to(tables, list, new.place);
+    let mut near = ArrayVec::new();
+    near_to(tables, list, new.place, &mut near);
     are_apart(
         tables,
         near.as_slice(),
@@ -210,7 +211,7 @@ impl<'a> Frontier<'a> {
         leaves_free(self.list.as_slice(), block)
     }
 
-    /// Whether a code of a block without a literal clashes with no literal.
+    /// Whether a code of a block without a literal clashes with no literal and meets no piece.
     pub fn may_fit(&self, block: u8, code: u32) -> bool
         requires { CanPush self.now block code }
         ensures yes { result ≡ true → MayFit (choices self.now.yard) self.now.literals block code }
@@ -238,8 +239,8 @@ impl<'a> Frontier<'a> {
         bound_of(sum_of(self.tables, list, lefts))
     }
 
-    /// The least own cost of the codes of a block that clash with no literal; None where there is none. Of a block with a
-    /// literal, the cost of its code.
+    /// The least own cost of the codes of a block that clash with no literal and meet no piece; None where there is none. Of a
+    /// block with a literal, the cost of its code.
     pub fn least(&self, block: u8) -> Option<u32>
         requires { block < blocks (choices self.now.yard) }
         ensures { IsLeastOf (MayFit (choices self.now.yard) self.now.literals block) ((choices self.now.yard).cost block) result }

@@ -52,29 +52,30 @@ fn stretch_beside(
     }
 }
 
-/// The columns of a row at which the footprint of a block in a turn is not clear of those near it.
-fn forbidden(
+/// Gathers the columns of a row at which the footprint of a block in a turn is not clear of those near it, in place of what
+/// the list had.
+fn forbid(
     tables: &YardTables<'_>,
     near: &[Neighbour],
     moving: u8,
     pitch: u16,
     row: u16,
     columns: u16,
-) -> ArrayVec<Stretch, 80>
+    stretches: &mut ArrayVec<Stretch, 80>,
+)
     requires near { All (IsNeighbour tables.now.yard) near.now }
     requires few { length near.now ≤ 80 }
     requires moving { moving < turned_count tables.now.yard }
     requires pitch { IsPitch pitch }
     requires row { row ≤ 401 }
-    ensures { AreForbidden (obstacles_of tables.now.yard moving near.now) pitch row columns result.items }
+    ensures { AreForbidden (obstacles_of tables.now.yard moving near.now) pitch row columns stretches.new.items }
 {
-    let mut stretches = ArrayVec::new();
+    stretches.clear();
     for n in near {
         if let Some(s) = stretch_beside(tables, *n, moving, pitch, row, columns) {
             stretches.push(s);
         }
     }
-    stretches
 }
 
 /// The first row and the first column in it, from a row and a column on, at which the footprint of a block in a
@@ -99,8 +100,17 @@ pub(crate) fn first_clear(
         → AreClear (obstacles_of tables.now.yard moving near.now) (place lattice.pitch j k) → IsOnFrom at.0 at.1 j k) }
 {
     let mut column = from.1;
+    let mut stretches = ArrayVec::new();
     for row in from.0..lattice.rows {
-        let stretches = forbidden(tables, near, moving, lattice.pitch, row, lattice.columns);
+        forbid(
+            tables,
+            near,
+            moving,
+            lattice.pitch,
+            row,
+            lattice.columns,
+            &mut stretches,
+        );
         if let Some(k) = first_gap(stretches.as_slice(), lattice.columns, column) {
             return Some((row, k));
         }

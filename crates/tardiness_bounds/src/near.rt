@@ -33,32 +33,37 @@ pub(crate) fn of_standing(f: Standing) -> Neighbour
     }
 }
 
-/// The blocks that stand that are on the placement's plate on some of its days.
-fn near_blocks(tables: &YardTables<'_>, list: &[Standing], place: Placement) -> Neighbours
+/// Gathers the blocks that stand that are on the placement's plate on some of its days.
+fn near_blocks(tables: &YardTables<'_>, list: &[Standing], place: Placement, near: &mut Neighbours)
     requires list { All (IsStanding tables.now.yard) list.now }
     requires few { length list.now ≤ 32 }
-    ensures near { AreNear tables.now.yard place list.now 0 result.items }
-    ensures each { All (IsNeighbour tables.now.yard) result.items }
-    ensures few { length result.items ≤ 32 }
+    ensures near { AreNear tables.now.yard place list.now 0 near.new.items }
+    ensures each { All (IsNeighbour tables.now.yard) near.new.items }
+    ensures few { length near.new.items ≤ 32 }
 {
     let _yard = tables.codes().yard();
-    let mut near = ArrayVec::new();
+    near.clear();
     for f in list {
         if may_clash(f.place, place) {
             near.push(of_standing(*f));
         }
     }
-    near
 }
 
-/// The blocks that stand, and the pieces, that are on the placement's plate on some of its days.
-pub(crate) fn near_to(tables: &YardTables<'_>, list: &[Standing], place: Placement) -> Neighbours
+/// Gathers the blocks that stand, and the pieces, that are on the placement's plate on some of its days, in place of what
+/// the list had.
+pub(crate) fn near_to(
+    tables: &YardTables<'_>,
+    list: &[Standing],
+    place: Placement,
+    near: &mut Neighbours,
+)
     requires list { All (IsStanding tables.now.yard) list.now }
     requires few { length list.now ≤ 32 }
-    ensures near { AreNear tables.now.yard place list.now (length tables.now.yard.fixed) result.items }
-    ensures each { All (IsNeighbour tables.now.yard) result.items }
+    ensures near { AreNear tables.now.yard place list.now (length tables.now.yard.fixed) near.new.items }
+    ensures each { All (IsNeighbour tables.now.yard) near.new.items }
 {
-    let mut near = near_blocks(tables, list, place);
+    near_blocks(tables, list, place, near);
     let yard = tables.codes().yard();
     let turned = yard.blocks().len() * 4;
     for (i, piece) in yard.fixed().iter().enumerate() {
@@ -70,5 +75,4 @@ pub(crate) fn near_to(tables: &YardTables<'_>, list: &[Standing], place: Placeme
             });
         }
     }
-    near
 }

@@ -60,9 +60,12 @@ pub(crate) fn stand_of(
     let codes = tables.codes();
     let plates = codes.yard().plates();
     let plate = &plates[stretch.place.plate as usize];
+    let lattice = lattice_of(plate, codes.shape(block, stretch.place.turn));
+    let mut near = ArrayVec::new();
+    near_to(tables, list, stretch.place, &mut near);
     Stand {
         stretch,
-        lattice: lattice_of(plate, codes.shape(block, stretch.place.turn)),
-        near: near_to(tables, list, stretch.place),
+        lattice,
+        near,
     }
 }

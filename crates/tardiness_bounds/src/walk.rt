@@ -113,7 +113,8 @@ fn reaches(
     enter(tables, list, block, most, walk)
 }
 
-/// The next free code of the stretch of the walk. Where there is none, the walk goes past the stretch.
+/// The next code of the stretch of the walk that clashes with nothing near it. Where there is none, the walk goes past the
+/// stretch.
 fn find(tables: &YardTables<'_>, block: u8, walk: &mut Walk) -> Option<u32>
     requires block { block < length tables.now.yard.blocks }
     requires ground { IsGround tables.now.yard block walk.old.stand }

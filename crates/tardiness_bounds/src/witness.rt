@@ -15,6 +15,7 @@ use crate::near::{Neighbour, near_to};
 use crate::slot::Slot;
 use crate::standing::Standing;
 use crate::tables::YardTables;
+use arrayvec::ArrayVec;
 use code_table::Placement;
 
 /// A free placement of a block in its first slot that is not full, the number of this slot, and what it costs.
@@ -123,7 +124,8 @@ fn free_in(tables: &YardTables<'_>, list: &[Standing], block: u8, slot: Slot) ->
     ensures none { IfNone result (IsFull tables.now.yard list.now block slot) }
     ensures some { IfSome result (IsFree tables.now.yard list.now block slot) }
 {
-    let near = near_to(tables, list, place_of_slot(slot));
+    let mut near = ArrayVec::new();
+    near_to(tables, list, place_of_slot(slot), &mut near);
     first_in_slot(tables, near.as_slice(), block, slot)
 }
 

@@ -13,7 +13,7 @@ returns-clause-yes c = λ t.
     (subst (λ b. slice_get (placements c.args.tables.now.yard b) c.standing_at-new.result.code ≡ Some c.standing_at-new.result.place) c.standing_at-new.ensures.block
     c.standing_at-new.ensures.standing.code) in
     near_clear_code c.args.tables.now.yard c.args.list.now c.as_slice.result.now c.args.block c.args.code c.standing_at-new.result.place
-    (subst (AreNear c.args.tables.now.yard c.standing_at-new.result.place c.args.list.now (length c.args.tables.now.yard.fixed)) (sym c.as_slice.ensures.value) c.near_to-near.ensures.near)
+    (subst (AreNear c.args.tables.now.yard c.standing_at-new.result.place c.args.list.now (length c.args.tables.now.yard.fixed)) (sym c.as_slice.ensures.value) c.near_to.ensures.near)
     c.requires.list (block_exists c.args.tables.now.yard c.args.block c.requires.code.0) c.standing_at-new.ensures.standing.turn at (c.are_apart.ensures.yes t)
 
 pub returns-clause-no : goal.returns-clause-no
@@ -24,5 +24,5 @@ returns-clause-no c = λ t clear.
     c.standing_at-new.ensures.standing.code) in
     c.are_apart.ensures.no t
     (clear_near_code c.args.tables.now.yard c.args.list.now c.as_slice.result.now c.args.block c.args.code c.standing_at-new.result.place
-    (subst (AreNear c.args.tables.now.yard c.standing_at-new.result.place c.args.list.now (length c.args.tables.now.yard.fixed)) (sym c.as_slice.ensures.value) c.near_to-near.ensures.near)
+    (subst (AreNear c.args.tables.now.yard c.standing_at-new.result.place c.args.list.now (length c.args.tables.now.yard.fixed)) (sym c.as_slice.ensures.value) c.near_to.ensures.near)
     c.requires.list (block_exists c.args.tables.now.yard c.args.block c.requires.code.0) c.standing_at-new.ensures.standing.turn at clear)

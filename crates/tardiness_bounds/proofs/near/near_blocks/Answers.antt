@@ -11,9 +11,9 @@ use Rattle.tardiness_bounds.proofs.near.near_blocks.Goals.{then-may_clash, else-
 
 pub loop-f-init : goal.loop-f-init
 loop-f-init c = record {
-  few = (let e = ap length c.new-near.ensures in omega arith);
-  near = subst (AreNear c.args.tables.now.yard c.args.place [] 0) (sym c.new-near.ensures) (near_none c.args.tables.now.yard c.args.place);
-  each = subst (All (IsNeighbour c.args.tables.now.yard)) (sym c.new-near.ensures) (All-nil (IsNeighbour c.args.tables.now.yard));
+  few = (let e = ap length c.clear.ensures in omega arith);
+  near = subst (AreNear c.args.tables.now.yard c.args.place [] 0) (sym c.clear.ensures) (near_none c.args.tables.now.yard c.args.place);
+  each = subst (All (IsNeighbour c.args.tables.now.yard)) (sym c.clear.ensures) (All-nil (IsNeighbour c.args.tables.now.yard));
 }
 
 pub of_standing-requires-clause-block : goal.of_standing-requires-clause-block

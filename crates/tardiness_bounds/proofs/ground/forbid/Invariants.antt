@@ -1,7 +1,7 @@
 use Rattle.std.proofs.Common.{◌≤◌, length, take}
 use Rattle.lattice_free.specs.Clear.{AreForbidden}
 use Rattle.tardiness_bounds.specs.Neighbours.{obstacles_of}
-use Rattle.tardiness_bounds.proofs.ground.forbidden.Given as goal
+use Rattle.tardiness_bounds.proofs.ground.forbid.Given as goal
 
 -- the stretches of the first neighbours
 abbrev pub invariant-loop-n : goal.invariant-loop-n

@@ -2,8 +2,8 @@ use Rattle.std.proofs.Common.{◌≡◌, ◌+◌, length, take, refl, sym, subst
 use Rattle.lattice_free.specs.Clear.{AreForbidden}
 use Rattle.tardiness_bounds.specs.Neighbours.{obstacles_of}
 use Rattle.tardiness_bounds.proofs.RowLaws.{row_more, row_past}
-use Rattle.tardiness_bounds.proofs.ground.forbidden.Goals as goal
-use Rattle.tardiness_bounds.proofs.ground.forbidden.Goals.{in-Some, in_default}
+use Rattle.tardiness_bounds.proofs.ground.forbid.Goals as goal
+use Rattle.tardiness_bounds.proofs.ground.forbid.Goals.{in-Some, in_default}
 
 pub loop-n-preserved : goal.loop-n-preserved
 loop-n-preserved c =
