@@ -6,6 +6,8 @@ mod checks;
 mod crews;
 mod early;
 mod failing;
+mod failing_check;
+mod hostile;
 mod loads;
 mod logs;
 mod outside;

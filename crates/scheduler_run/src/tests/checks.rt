@@ -11,7 +11,7 @@ use yard_io::{OpenGate, QuietDesk};
 type Row<'a> = (&'a [&'a str], &'a str, &'a str, u8, &'a str);
 
 /// Two squares that share a plate in turn.
-const SQUARES: &[&str] = &[
+pub const SQUARES: &[&str] = &[
     TEN_DAYS,
     PLATE_4X3,
     A,
@@ -40,7 +40,7 @@ const TRIANGLES: &[&str] = &[
 const NARROW: &[&str] = &[TEN_DAYS, PLATE_1X3, A, SQUARE_2, TWO_DAYS_DUE_1];
 
 /// The best plan of the squares: the first of the list stands first.
-const FIRST: &str = "plan 1
+pub const FIRST: &str = "plan 1
 block A plate P turn 0 x 0 y 0 start 0 end 1 tardiness 0
 block B plate P turn 0 x 0 y 0 start 2 end 3 tardiness 2
 total 10
@@ -62,7 +62,7 @@ total 0
 
 /// The log of the squares: beside each of the codes 0 to 3 of the first block every code of the second is refuted, and
 /// later codes cost too much or come later.
-const FIVE: &str = "log 1
+pub const FIVE: &str = "log 1
 branch 1 0 18 0:0 -
 branch 1 0 18 0:1 -
 branch 1 0 18 0:2 -

@@ -1,5 +1,6 @@
 //! Plans over a desk of which one call fails, in pieces of four bytes: each call of each kind in turn.
 
+use super::checks::{FIRST, SQUARES};
 use super::yards::*;
 use crate::run;
 use shape_exact::NoMemory;
@@ -11,35 +12,17 @@ use yard_io::{DeskCall, MemoryDesk, OpenGate};
 
 const WORDS: [&str; 5] = ["plan", "y", "l", "1", "0"];
 
-const YARD: [&str; 10] = [
-    TEN_DAYS,
-    PLATE_4X3,
-    A,
-    SQUARE_3,
-    TWO_DAYS_DUE_1,
-    "weight = 5\n",
-    B,
-    SQUARE_3,
-    TWO_DAYS_DUE_1,
-    "weight = 5\n",
-];
-
-const PLAN: &str = "plan 1
-block A plate P turn 0 x 0 y 0 start 0 end 1 tardiness 0
-block B plate P turn 0 x 0 y 0 start 2 end 3 tardiness 2
-total 10
-";
-
-fn yard(alloc: Global) -> Result<Vec<u8>, NoMemory> {
+/// The bytes of the yard that these parts make.
+pub fn bytes_of(alloc: Global, parts: &[&str]) -> Result<Vec<u8>, NoMemory> {
     let mut bytes = Vec::new(alloc);
-    for part in YARD {
+    for part in parts {
         bytes.extend_from_slice(part.as_bytes())?;
     }
     Ok(bytes)
 }
 
 /// What a run over this yard ends with where this call fails: its status, and the desk.
-fn ends<R: Threads + Sync + AllocGlobal>(
+pub fn ends<R: Threads + Sync + AllocGlobal>(
     rt: &R,
     yard: &[u8],
     call: DeskCall,
@@ -53,7 +36,7 @@ fn ends<R: Threads + Sync + AllocGlobal>(
 }
 
 /// How many pieces of four bytes there are in so many.
-fn pieces(bytes: usize) -> u64 {
+pub fn pieces(bytes: usize) -> u64 {
     bytes.div_ceil(4) as u64
 }
 
@@ -84,19 +67,19 @@ fn left<R: AllocGlobal + Abort>(rt: &R, desk: &MemoryDesk, call: DeskCall, nth: 
     assert_eq!(rt; pieces(made.len()), appended, "{call:?} {nth}");
     assert!(rt; log.starts_with(made), "{call:?} {nth}");
     assert_eq!(rt; pieces(desk.said().len()), said, "{call:?} {nth}");
-    assert!(rt; PLAN.as_bytes().starts_with(desk.said()), "{call:?} {nth}");
+    assert!(rt; FIRST.as_bytes().starts_with(desk.said()), "{call:?} {nth}");
 }
 
 #[test]
-fn each_call_fails_in_turn(rt: HostRuntime) -> Result<(), Fail> {
-    let yard = yard(rt.alloc())?;
+fn each_call_of_a_plan_fails_in_turn(rt: HostRuntime) -> Result<(), Fail> {
+    let yard = bytes_of(rt.alloc(), SQUARES)?;
     let log = whole_log(&rt, yard.as_slice())?;
     let rows = [
         (DeskCall::Length, 1, 4),
         (DeskCall::Read, pieces(yard.len()), 4),
         (DeskCall::Fresh, 1, 5),
         (DeskCall::Append, pieces(log.len()), 5),
-        (DeskCall::Say, pieces(PLAN.len()), 5),
+        (DeskCall::Say, pieces(FIRST.len()), 5),
     ];
     for (call, calls, status) in rows {
         for nth in 0..calls {
@@ -114,9 +97,32 @@ fn each_call_fails_in_turn(rt: HostRuntime) -> Result<(), Fail> {
         );
         assert_eq!(rt;
             desk.said(),
-            PLAN.as_bytes(),
+            FIRST.as_bytes(),
             "{call:?} {calls} is not made"
         );
     }
+    Ok(())
+}
+
+/// Of a log whose second piece fails the first stands, and nothing is said; of a plan whose second piece fails the first is said,
+/// and the log is whole; without a length nothing is made.
+#[test]
+fn the_second_piece_fails(rt: HostRuntime) -> Result<(), Fail> {
+    let yard = bytes_of(
+        rt.alloc(),
+        &[TEN_DAYS, PLATE_4X3, A, SQUARE_2, TWO_DAYS_DUE_1],
+    )?;
+    let (ended, desk) = ends(&rt, yard.as_slice(), DeskCall::Append, 1)?;
+    assert_eq!(rt; ended, 5);
+    assert_eq!(rt; desk.file("l"), Some(b"log ".as_slice()));
+    assert_eq!(rt; desk.said().len(), 0);
+    let (ended, desk) = ends(&rt, yard.as_slice(), DeskCall::Say, 1)?;
+    assert_eq!(rt; ended, 5);
+    assert!(rt; desk.file("l").unwrap_or(&[]).ends_with(b"\nend\n"));
+    assert_eq!(rt; desk.said(), b"plan".as_slice());
+    let (ended, desk) = ends(&rt, yard.as_slice(), DeskCall::Length, 0)?;
+    assert_eq!(rt; ended, 4);
+    assert_eq!(rt; desk.file("l"), None);
+    assert_eq!(rt; desk.said().len(), 0);
     Ok(())
 }
