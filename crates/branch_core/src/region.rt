@@ -3,6 +3,7 @@ ghost use Rattle.std.specs.Prelude.{◌≡◌, ◌+◌, ◌<◌, [], ℕ, List, 
 ghost use Rattle.plan_rule.specs.Plans.{IsFeasible};
 ghost use Rattle.plan_rule.specs.Paths.{IsInRegion};
 ghost use Rattle.plan_rule.specs.Regions.{IsRegionPart};
+ghost use Rattle.plan_rule.specs.Reports.{IsBar};
 ghost use Rattle.plan_rule.specs.Yards.{choices};
 ghost use Rattle.branch_kernel.specs.Rivals.{IsLater};
 ghost use Rattle.branch_kernel.specs.States.{IsHeld, IsInside, state};
@@ -206,6 +207,7 @@ pub fn solve_part<B: Bars>(
     requires prefix { store.old.prefix ≡ [] }
     ensures served { B.yard bars.new ≡ codes.now }
     ensures home { B.home bars.new ≡ B.home bars.old }
+    ensures bar { IsBar (choices codes.now) (B.bar bars.new) }
     ensures solved { IfOk result (λ r. IsSolved (choices codes.now) job (state (B.bar bars.old) None log.old store.old)
         (state (B.bar bars.new) r.best log.new store.new) r) }
     ensures left { OnErr result ((best : Option (List ℕ)) × Ends (choices codes.now)

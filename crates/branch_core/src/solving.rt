@@ -40,6 +40,7 @@ fn solve_empty<B: Bars>(
     requires empty { (b : ℕ) × (b < blocks (choices codes.now)) × (count (choices codes.now) b ≡ 0) }
     ensures served { B.yard bars.new ≡ codes.now }
     ensures home { B.home bars.new ≡ B.home bars.old }
+    ensures bar { IsBar (choices codes.now) (B.bar bars.new) }
     ensures solved { IfOk result (λ r. IsSolved (choices codes.now) job (state (B.bar bars.old) None log.old store.now)
         (state (B.bar bars.new) r.best log.new store.now) r) }
     ensures left { OnErr result ((best : Option (List ℕ)) × Ends (choices codes.now)
@@ -82,6 +83,7 @@ pub fn solve_with<B: Bars>(
     requires stored { IsStored (choices codes.now) log.old store.old.nogoods }
     ensures served { B.yard bars.new ≡ codes.now }
     ensures home { B.home bars.new ≡ B.home bars.old }
+    ensures bar { IsBar (choices codes.now) (B.bar bars.new) }
     ensures solved { IfOk result (λ r. IsSolved (choices codes.now) job (state (B.bar bars.old) None log.old store.old)
         (state (B.bar bars.new) r.best log.new store.new) r) }
     ensures left { OnErr result ((best : Option (List ℕ)) × Ends (choices codes.now)
@@ -134,6 +136,7 @@ pub fn solve<B: Bars>(
     requires stored { IsStored (choices codes.now) log.old store.old.nogoods }
     ensures served { B.yard bars.new ≡ codes.now }
     ensures home { B.home bars.new ≡ B.home bars.old }
+    ensures bar { IsBar (choices codes.now) (B.bar bars.new) }
     ensures solved { IfOk result (λ r. IsSolved (choices codes.now) job (state (B.bar bars.old) None log.old store.old)
         (state (B.bar bars.new) r.best log.new store.new) r) }
     ensures left { OnErr result ((best : Option (List ℕ)) × Ends (choices codes.now)

@@ -39,3 +39,13 @@ returns-clause-solved g c =
     (omega arith) c.see-seen.ensures.falls c.see-seen.ensures.seen
     (subst (λ yard. IsBar (choices yard) c.see-seen.result) c.search_part-found.ensures.served c.see-seen.ensures.is_bar)
     c.requires.part c.search_part-found.ensures.ended (ok_of c.search_part-found.result c.in_ok-shown.shown _ c.in_ok-shown.was c.search_part-found.ensures.shown)
+
+pub returns-in_err-shown-clause-bar : goal.returns-in_err-shown-clause-bar
+returns-in_err-shown-clause-bar g c =
+    subst (λ bar. IsBar (choices c.args.codes.now) bar) c.see-seen.ensures.seen
+    (subst (λ yard. IsBar (choices yard) c.see-seen.result) c.search_part-found.ensures.served c.see-seen.ensures.is_bar)
+
+pub returns-clause-bar : goal.returns-clause-bar
+returns-clause-bar g c =
+    subst (λ bar. IsBar (choices c.args.codes.now) bar) c.see-seen.ensures.seen
+    (subst (λ yard. IsBar (choices yard) c.see-seen.result) c.search_part-found.ensures.served c.see-seen.ensures.is_bar)
