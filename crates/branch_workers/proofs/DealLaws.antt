@@ -122,7 +122,7 @@ pub round_is : (jobs : List Job) (from next next' i : ℕ) (old now now' : List 
 round_is jobs from next next' i old now now' h a b = subst (λ now. IsRound jobs from next' old now i) (sym b) (subst (λ n. IsRound jobs from n old now i) (sym a) h)
 
 abbrev pub with_owner : Worker → Owned → Worker
-with_owner w owner = record { number = w.number; seat = w.seat; owner = owner; reaches = w.reaches; store = w.store; reports = w.reports; log = w.log }
+with_owner w owner = record { number = w.number; seat = w.seat; owner = owner; reaches = w.reaches; store = w.store; reports = w.reports; log = w.log; capsules = w.capsules }
 
 -- the same, by what the push ensures
 pub given_to : (jobs : List Job) (from next next' i : ℕ) (old now now' : List Worker) (d : Worker) (owner : Owned) (e : Job) → IsRound jobs from next old now i → i < length now → next < length jobs

@@ -28,6 +28,7 @@ with_pushed w pushed = record {
   store = w.store;
   reports = w.reports;
   log = w.log;
+  capsules = w.capsules;
 }
 
 -- all of a worker but the jobs that its owner has pushed

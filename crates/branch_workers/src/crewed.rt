@@ -21,7 +21,7 @@ use crate::gather::settle;
 use crate::logs::take_logs;
 use crate::making::make;
 use crate::running::run_over;
-use crate::{Reports, Worker};
+use crate::{Capsules, Reports, Worker};
 use branch_core::records_are_proper;
 use code_table::Codes;
 use incumbent_word::Board;
@@ -36,13 +36,16 @@ use tardiness_bounds::YardTables;
 use yard_io::Gate;
 
 /// What a crew found: the best plan or none, the word with which the board ended, the reports, whose jobs tile, and the log
-/// of all workers, which is accepted for the best.
+/// of all workers, which is accepted for the best. How many jobs were stolen, and how many capsules were shared, is only
+/// told: no contract speaks of it.
 #[derive(Drop)]
 pub struct Crewed {
     pub best: Option<Plan>,
     pub last: u64,
     pub reports: Reports,
     pub log: Log,
+    pub stolen: u64,
+    pub capsules: Capsules,
 }
 
 /// The logs and the reports of all workers.
@@ -85,6 +88,15 @@ fn collect(alloc: Global, codes: &Codes, workers: &mut [Worker]) -> Result<Colle
         log,
         leaves,
     })
+}
+
+/// The capsules that all workers have shared.
+fn capsules_of(workers: &[Worker]) -> Capsules {
+    let mut all = Capsules::none();
+    for worker in workers {
+        all.add(worker.capsules);
+    }
+    all
 }
 
 /// Runs the workers, and takes their logs and reports.
@@ -200,7 +212,8 @@ pub fn crew<R: Threads + Sync, G: Gate + Sync>(
         crew.as_mut_slice(),
         piles.as_mut_slice(),
     );
-    settle(&board, &mut seat, crew, piles);
+    let capsules = capsules_of(crew.as_slice());
+    let stolen = settle(&board, &mut seat, crew, piles);
     let last = board.close(seat).word;
     keys_are_small(codes);
     reports_give_best(codes);
@@ -217,5 +230,7 @@ pub fn crew<R: Threads + Sync, G: Gate + Sync>(
         last,
         reports,
         log,
+        stolen,
+        capsules,
     })
 }

@@ -35,13 +35,13 @@ pub(crate) fn gather(workers: &mut [Worker], piles: &mut [Vec<Reach>])
 }
 
 /// Joins the workers' seats to one, and ends each worker's deque: each job that was pushed was popped or stolen exactly
-/// as often.
+/// as often. Answers how many were stolen, which no clause says.
 pub(crate) fn settle(
     board: &Board,
     seat: &mut Seat,
     mut workers: Vec<Worker>,
     mut piles: Vec<Vec<Reach>>,
-)
+) -> u64
     requires board { seat.old.place ≡ board.now }
     requires seats { All (λ w. w.seat.place ≡ board.now) workers.items }
     requires sizes { length workers.items ≡ length piles.items }
@@ -50,6 +50,7 @@ pub(crate) fn settle(
     ensures place { seat.new.place ≡ seat.old.place }
     ensures seen { (w : Worker) (k : ℕ) → Contains workers.items w → Contains w.seat.seen k → Contains seat.new.seen k }
 {
+    let mut stolen: u64 = 0;
     while let Some(worker) = workers.pop() {
         if let Some(pile) = piles.pop() {
             let Worker {
@@ -60,9 +61,12 @@ pub(crate) fn settle(
                 store: _,
                 reports: _,
                 log: _,
+                capsules: _,
             } = worker;
             board.join(seat, own);
-            done(owner, pile);
+            let tally = done(owner, pile);
+            stolen = stolen.saturating_add(tally.stolen);
         }
     }
+    stolen
 }

@@ -10,6 +10,7 @@ mod deal;
 mod gather;
 mod logs;
 mod making;
+mod opening;
 mod regions;
 mod reporting;
 mod running;
@@ -20,7 +21,7 @@ mod worker;
 mod working;
 
 pub use crewed::{Crewed, crew};
-pub use worker::{Reports, Worker};
+pub use worker::{Capsules, Reports, Worker};
 pub use working::work;
 
 #[cfg(test)]

@@ -4,7 +4,7 @@ ghost use Rattle.branch_workers.specs.Gather.{IsMadeFor};
 ghost use Rattle.branch_workers.specs.Making.{AreHired, IsHired, IsLent, IsShared, AreShared, AreEmpty};
 
 use crate::gather::gather_one;
-use crate::{Reports, Worker};
+use crate::{Capsules, Reports, Worker};
 use incumbent_word::{Board, Seat};
 use nogood_store::Nogoods;
 use refutation_log::Log;
@@ -34,6 +34,7 @@ fn hire_one(
         store,
         reports,
         log: Log::new(alloc),
+        capsules: Capsules::none(),
     };
     Ok((worker, reach))
 }

@@ -12,7 +12,7 @@ ghost use Rattle.branch_workers.specs.Work.{IsGrownLog};
 use branch_core::records_are_proper;
 use branch_kernel::{Shown, choices_are_known, copy, keep_box, node_part};
 use code_table::Codes;
-use incumbent_word::{Board, Fetched, Seat};
+use incumbent_word::{Board, Fetched, Posted, Seat};
 use log_parts::derivation;
 use nogood_store::Nogoods;
 use plan_rule::{Literal, PlanBox, keys_are_small};
@@ -20,8 +20,17 @@ use refutation_log::{Capsule, Log, Record};
 use shape_exact::NoMemory;
 use std::alloc::Global;
 
+/// Whether the capsule of a post is in its slot.
+fn is_in_slot(posted: Posted) -> bool {
+    match posted {
+        Posted::Busy(_) => false,
+        Posted::Done | Posted::Replaced(_) => true,
+    }
+}
+
 /// Posts the record of the box that was stored last, with every record that it rests on, where more boxes are stored than
-/// before the search. The bar is what the search saw last. A capsule that cannot be made is passed over.
+/// before the search; answers whether the capsule is in the slot. The bar is what the search saw last. A capsule that cannot
+/// be made is passed over.
 pub(crate) fn post_last(
     alloc: Global,
     codes: &Codes,
@@ -32,7 +41,7 @@ pub(crate) fn post_last(
     seat: &mut Seat,
     store: &Nogoods,
     log: &Log,
-)
+) -> bool
     requires slot { slot < 16 }
     requires board { (seat.old.place ≡ board.now) × (board.now.yard ≡ codes.now) }
     requires earlier { CiteEarlier log.now }
@@ -43,18 +52,19 @@ pub(crate) fn post_last(
     ensures seen { seat.new.seen ≡ seat.old.seen }
 {
     if store.len() <= before {
-        return;
+        return false;
     }
     let Some(tag) = store.last() else {
-        return;
+        return false;
     };
     let Ok(found) = derivation(alloc, log, tag, seen) else {
-        return;
+        return false;
     };
     let Some(capsule) = found else {
-        return;
+        return false;
     };
-    let _posted = board.post(seat, slot, capsule);
+    let posted = board.post(seat, slot, capsule);
+    is_in_slot(posted)
 }
 
 /// The box that a record refutes.

@@ -59,8 +59,38 @@ impl Reports {
     }
 }
 
+/// How many capsules a worker has posted, and how many it has taken in. These numbers are only told: they depend on the order
+/// of the workers' steps, and no contract speaks of them.
+#[derive(Clone, Copy, Debug, PartialEq, Eq)]
+pub struct Capsules {
+    pub posted: u64,
+    pub taken: u64,
+}
+
+impl Capsules {
+    /// None yet.
+    pub fn none() -> Capsules {
+        Capsules {
+            posted: 0,
+            taken: 0,
+        }
+    }
+
+    /// Counts what came of one job.
+    pub(crate) fn count(&mut self, posted: bool, taken: bool) {
+        self.posted = self.posted.saturating_add(u64::from(posted));
+        self.taken = self.taken.saturating_add(u64::from(taken));
+    }
+
+    /// Adds another worker's.
+    pub(crate) fn add(&mut self, other: Capsules) {
+        self.posted = self.posted.saturating_add(other.posted);
+        self.taken = self.taken.saturating_add(other.taken);
+    }
+}
+
 /// One of the crew: its seat at the board, its own deque, its reaches into the others' deques, the boxes that it has
-/// learned, and what it has reported and logged.
+/// learned, what it has reported and logged, and how many capsules it has shared.
 #[derive(Drop)]
 pub struct Worker {
     pub number: u32,
@@ -70,4 +100,5 @@ pub struct Worker {
     pub store: Nogoods,
     pub reports: Reports,
     pub log: Log,
+    pub capsules: Capsules,
 }

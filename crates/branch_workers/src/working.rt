@@ -8,6 +8,7 @@ ghost use Rattle.branch_workers.specs.Stock.{IsStocked};
 ghost use Rattle.branch_workers.specs.Work.{IsMade, Grown, IsInHand, IsSound, IsSameOwner, IsStart, job_of_report, IsSamePlace, HasWorked, IsLogged};
 
 use crate::Worker;
+use crate::opening::offer_first;
 use crate::regions::splits;
 use crate::reporting::report_on;
 use crate::sharing::{post_last, take_in};
@@ -97,7 +98,7 @@ fn take_job(
         &mut worker.log,
         hints,
     )?;
-    post_last(
+    let posted = post_last(
         alloc,
         codes,
         board,
@@ -109,6 +110,7 @@ fn take_job(
         &worker.log,
     );
     let turn = worker.number as usize + 1 + worker.reports.list().len();
+    let before = worker.log.records().len();
     take_in(
         alloc,
         codes,
@@ -118,11 +120,13 @@ fn take_job(
         &mut worker.store,
         &mut worker.log,
     )?;
+    let taken = worker.log.records().len() > before;
+    worker.capsules.count(posted, taken);
     worker.reports.push(report)?;
     Ok(())
 }
 
-/// Takes jobs until there is none.
+/// Offers a plan, and then takes jobs until there is none.
 fn work_all<G: Gate>(
     alloc: Global,
     codes: &Codes,
@@ -143,6 +147,16 @@ fn work_all<G: Gate>(
     ensures idle { OnOk result (worker.new.owner.idle ≡ true) }
 {
     let mut hints = Hints::new(alloc, codes)?;
+    let others = worker.reaches.len();
+    offer_first(
+        alloc,
+        codes,
+        tables,
+        board,
+        worker.number,
+        others,
+        &mut worker.seat,
+    )?;
     let mut left: u32 = MAY_STEAL;
     while let Some(job) = next_job(&mut worker.owner, worker.reaches.as_mut_slice(), &mut left) {
         gate.at_job(worker.number, job.word());
@@ -202,7 +216,7 @@ fn work_alone<G: Gate>(
 
 /// Empties the worker's own deque, and steals from each other one, until a round of tries gives no job or 2,097,152 steals
 /// are made. Each job is halved or solved, and reported. After want of memory the rest of its own deque is taken and not
-/// solved.
+/// solved. A worker that is not alone first offers a plan by list schedules of the whole yard.
 ///
 /// The worker has solved nothing yet, and its reaches are of other workers' deques.
 pub fn work<G: Gate + Sync>(

@@ -18,12 +18,12 @@ reported-collected-requires-clause-dealt g c κs within =
 pub reported-collected-requires-clause-once : goal.reported-collected-requires-clause-once
 reported-collected-requires-clause-once g c κs within = λ x. ap (times x) c.as_slice.ensures.value ∙ c.in_ok-jobs.ensures.count x
 
-pub settle-requires-clause-seats : goal.settle-requires-clause-seats
-settle-requires-clause-seats g c =
+pub settle-stolen-requires-clause-seats : goal.settle-stolen-requires-clause-seats
+settle-stolen-requires-clause-seats g c =
     back_seated _ c.reported-collected.new.workers c.in_ok-crew.crew.len _ (c.reported-collected.ensures.sizes.0 ∙ ap length c.as_mut_slice.ensures.value ∙ sym c.in_ok-crew.crew.ok.0) c.reported-collected.ensures.seated
 
-pub settle-requires-clause-ready : goal.settle-requires-clause-ready
-settle-requires-clause-ready g c =
+pub settle-stolen-requires-clause-ready : goal.settle-stolen-requires-clause-ready
+settle-stolen-requires-clause-ready g c =
     (back_ready c.reported-collected.new.workers c.reported-collected.new.piles c.in_ok-crew.crew.len c.in_ok-crew.piles.len _ _
     (c.reported-collected.ensures.sizes.0 ∙ ap length c.as_mut_slice.ensures.value ∙ sym c.in_ok-crew.crew.ok.0)
     (c.reported-collected.ensures.sizes.1 ∙ ap length c.as_mut_slice-2.ensures.value ∙ sym c.in_ok-crew.piles.ok.0) c.reported-collected.ensures.ready).0
@@ -37,23 +37,23 @@ merge_leaves-requires g c =
     leaves_of (choices c.args.codes.now) c.longest.result c.in_ok-reports.field-0.reports _ _ c.in_ok-reports.ensures.collected
     (dealt_back (choices c.args.codes.now) c.longest.result c.reported-collected.new.workers c.reported-collected.new.piles c.in_ok-crew.crew.len c.in_ok-crew.piles.len _ _ c.in_ok-reports.field-0.reports
     (c.reported-collected.ensures.sizes.0 ∙ ap length c.as_mut_slice.ensures.value ∙ sym c.in_ok-crew.crew.ok.0)
-    (c.reported-collected.ensures.sizes.1 ∙ ap length c.as_mut_slice-2.ensures.value ∙ sym c.in_ok-crew.piles.ok.0) c.in_ok-reports.ensures.traced c.settle.ensures.settled)
+    (c.reported-collected.ensures.sizes.1 ∙ ap length c.as_mut_slice-2.ensures.value ∙ sym c.in_ok-crew.piles.ok.0) c.in_ok-reports.ensures.traced c.settle-stolen.ensures.settled)
     (once_back c.reported-collected.new.workers c.reported-collected.new.piles c.in_ok-crew.crew.len c.in_ok-crew.piles.len _ _ c.in_ok-reports.field-0.reports
     (c.reported-collected.ensures.sizes.0 ∙ ap length c.as_mut_slice.ensures.value ∙ sym c.in_ok-crew.crew.ok.0)
-    (c.reported-collected.ensures.sizes.1 ∙ ap length c.as_mut_slice-2.ensures.value ∙ sym c.in_ok-crew.piles.ok.0) c.in_ok-reports.ensures.balanced c.settle.ensures.settled)
+    (c.reported-collected.ensures.sizes.1 ∙ ap length c.as_mut_slice-2.ensures.value ∙ sym c.in_ok-crew.piles.ok.0) c.in_ok-reports.ensures.balanced c.settle-stolen.ensures.settled)
 
 pub returns-clause-tile : goal.returns-clause-tile
 returns-clause-tile g c =
     back_tiled c.reported-collected.new.workers c.reported-collected.new.piles c.in_ok-crew.crew.len c.in_ok-crew.piles.len _ _ c.in_ok-reports.field-0.reports
     (c.reported-collected.ensures.sizes.0 ∙ ap length c.as_mut_slice.ensures.value ∙ sym c.in_ok-crew.crew.ok.0)
-    (c.reported-collected.ensures.sizes.1 ∙ ap length c.as_mut_slice-2.ensures.value ∙ sym c.in_ok-crew.piles.ok.0) c.in_ok-reports.ensures.balanced c.settle.ensures.settled
+    (c.reported-collected.ensures.sizes.1 ∙ ap length c.as_mut_slice-2.ensures.value ∙ sym c.in_ok-crew.piles.ok.0) c.in_ok-reports.ensures.balanced c.settle-stolen.ensures.settled
 
 pub returns-clause-short : goal.returns-clause-short
 returns-clause-short g c =
     all_short (choices c.args.codes.now) c.args.split c.longest.result c.in_ok-reports.field-0.reports c.longest.ensures.1
     (dealt_back (choices c.args.codes.now) c.longest.result c.reported-collected.new.workers c.reported-collected.new.piles c.in_ok-crew.crew.len c.in_ok-crew.piles.len _ _ c.in_ok-reports.field-0.reports
     (c.reported-collected.ensures.sizes.0 ∙ ap length c.as_mut_slice.ensures.value ∙ sym c.in_ok-crew.crew.ok.0)
-    (c.reported-collected.ensures.sizes.1 ∙ ap length c.as_mut_slice-2.ensures.value ∙ sym c.in_ok-crew.piles.ok.0) c.in_ok-reports.ensures.traced c.settle.ensures.settled)
+    (c.reported-collected.ensures.sizes.1 ∙ ap length c.as_mut_slice-2.ensures.value ∙ sym c.in_ok-crew.piles.ok.0) c.in_ok-reports.ensures.traced c.settle-stolen.ensures.settled)
 
 pub returns-clause-best : goal.returns-clause-best
 returns-clause-best g c =
@@ -71,7 +71,7 @@ returns-clause-last g c =
     last_is (choices c.args.codes.now) c.in_ok-best.best c.close-last.result.word c.in_ok-reports.field-0.reports c.keys_are_small.ensures (returns-clause-best g c) of c.in_ok-reports.ensures.told.sound
     (subst (λ y. IsBar (choices y) c.close-last.result.word) c.in_ok-board.ensures.yard c.close-last.ensures.key)
     (below_back (choices c.args.codes.now) c.in_ok-reports.field-0.reports c.reported-collected.new.workers c.in_ok-crew.crew.len _ _ _
-    (c.reported-collected.ensures.sizes.0 ∙ ap length c.as_mut_slice.ensures.value ∙ sym c.in_ok-crew.crew.ok.0) c.in_ok-reports.ensures.told c.settle.ensures.seen c.close-last.ensures.seen)
+    (c.reported-collected.ensures.sizes.0 ∙ ap length c.as_mut_slice.ensures.value ∙ sym c.in_ok-crew.crew.ok.0) c.in_ok-reports.ensures.told c.settle-stolen.ensures.seen c.close-last.ensures.seen)
 
 pub returns-clause-text : goal.returns-clause-text
 returns-clause-text g c =

@@ -7,7 +7,7 @@ use Rattle.branch_workers.proofs.working.work_all.Goals as goal
 
 pub loop-job-init : goal.loop-job-init
 loop-job-init g c = record {
-  place = record { number = refl; seat = refl; owner = (refl, refl); reaches = refl };
+  place = record { number = refl; seat = c.offer_first.ensures; owner = (refl, refl); reaches = refl };
   working = work_begins _ _ _ _ _ _ refl c.requires.fresh.reports c.requires.fresh.reaches;
   logged = none_logged _ _ _ _ c.requires.fresh.log c.requires.fresh.reports;
   stocked = stocked_none _ _ _ _ c.requires.fresh.store.0 c.requires.fresh.store.1;
