@@ -13,6 +13,7 @@ pub mod OffsetLaws
 pub mod OnwardLaws
 pub mod PassedLaws
 pub mod RestLaws
+pub mod ShutLaws
 pub mod SpanLaws
 pub mod StepLaws
 pub mod TieLaws

@@ -42,7 +42,7 @@ same_exact f g e =
     made b s e l t y x = record { block = b; place = record { start = s; end = e; plate = l; turn = t; y = y; x = x } }
 
 -- a code that some exact blocks or a piece hinder is hindered beside more of them
-hindered_more : (yard : PlainYard) (list exacts : List Exact) (b k : ℕ) → All (Contains exacts) list → IsHindered yard list b k → IsHindered yard exacts b k
+pub hindered_more : (yard : PlainYard) (list exacts : List Exact) (b k : ℕ) → All (Contains exacts) list → IsHindered yard list b k → IsHindered yard exacts b k
 hindered_more yard list exacts b k among hindered = elim hindered [
   | inl met ↦
       let (p, at, here) = met in

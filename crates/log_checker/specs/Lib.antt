@@ -7,6 +7,7 @@ pub mod Lines
 pub mod NearPieces
 pub mod Offsets
 pub mod PassedCodes
+pub mod ShutCodes
 pub mod Spans
 pub mod Ties
 pub mod Verdicts

@@ -1,5 +1,5 @@
 //! The blocks that a side fixes to one code each.
-ghost use Rattle.std.specs.Prelude.{◌≡◌, ◌<◌, ◌≤◌, ◌↔◌, All, IsTrue, length};
+ghost use Rattle.std.specs.Prelude.{◌≡◌, ◌<◌, ◌≤◌, ◌↔◌, All, Contains, IsTrue, length, true};
 ghost use Rattle.plan_rule.specs.Boxes.{IsBox};
 ghost use Rattle.plan_rule.specs.Yards.{choices};
 ghost use Rattle.log_checker.specs.ExactBlocks.{AreExact, IsStanding, ClashesAt, ClashesWithOne};
@@ -93,4 +93,28 @@ pub(crate) fn clashes_with_one(
         }
     }
     false
+}
+
+/// Whether the list has the exact block.
+pub(crate) fn has(list: &[Exact], one: Exact) -> bool
+    ensures { result ≡ true → Contains list.now one }
+{
+    for f in list {
+        if *f == one {
+            return true;
+        }
+    }
+    false
+}
+
+/// Whether others has each exact block of the list.
+pub(crate) fn are_in(list: &[Exact], others: &[Exact]) -> bool
+    ensures { result ≡ true → All (Contains others.now) list.now }
+{
+    for f in list {
+        if !has(others, *f) {
+            return false;
+        }
+    }
+    true
 }

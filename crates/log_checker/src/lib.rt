@@ -7,8 +7,9 @@
 //! and ties cover (`cited`, `cut`, `ties`, `span`), and walks over the others (`walk`) beside what stands near (`exact`,
 //! `near`). The bounds are `base`, `rest`, `fit` with `free`, and `energy` with `window`; `refute` says when one refutes.
 //!
-//! From record to record two things are kept: whether turned footprints at an offset are apart (`offset`), and of each block
-//! how many of its first codes are hindered beside exact blocks that a side has again (`passed`).
+//! From record to record three things are kept: whether turned footprints at an offset are apart (`offset`), of each stretch
+//! how many of its first codes are hindered beside exact blocks that a side has again (`shut`), both in `known`, and the same
+//! of each block's first codes (`passed`).
 #![tactic(auto)]
 
 mod base;
@@ -23,11 +24,13 @@ mod fit;
 mod form;
 mod free;
 mod judge;
+mod known;
 mod near;
 mod offset;
 mod passed;
 mod refute;
 mod rest;
+mod shut;
 mod span;
 mod steps;
 #[cfg(test)]

@@ -14,7 +14,7 @@ use plan_rule::{may_clash, may_meet_piece, meets_piece};
 /// plate and days has the same near ones.
 #[derive(Drop)]
 pub(crate) struct Near {
-    exacts: ArrayVec<Exact, 32>,
+    pub exacts: ArrayVec<Exact, 32>,
     /// The pieces by number.
     pieces: ArrayVec<u8, 48>,
 }

@@ -4,12 +4,12 @@ ghost use Rattle.shape_exact.specs.Yards.{PlainYard};
 ghost use Rattle.plan_rule.specs.Choices.{blocks};
 ghost use Rattle.plan_rule.specs.Yards.{choices};
 ghost use Rattle.log_checker.specs.ExactBlocks.{IsStanding};
-ghost use Rattle.log_checker.specs.Offsets.{AreTold};
+ghost use Rattle.log_checker.specs.ShutCodes.{AreKnown};
 ghost use Rattle.log_checker.specs.PassedCodes.{ArePassed, AreHinderedTo};
 
-use crate::exact::Exact;
+use crate::exact::{Exact, are_in, has};
 use crate::free::first_clear;
-use crate::offset::Offsets;
+use crate::known::Known;
 use arrayvec::ArrayVec;
 use code_table::Codes;
 use plan_rule::block_count;
@@ -24,30 +24,6 @@ pub(crate) struct Passed {
     walked: [bool; 32],
     /// The exact blocks of the last side.
     last: ArrayVec<Exact, 32>,
-}
-
-/// Whether the list has the exact block.
-fn has(list: &[Exact], one: Exact) -> bool
-    ensures { result ≡ true → Contains list.now one }
-{
-    for f in list {
-        if *f == one {
-            return true;
-        }
-    }
-    false
-}
-
-/// Whether others has each exact block of the list.
-fn are_in(list: &[Exact], others: &[Exact]) -> bool
-    ensures { result ≡ true → All (Contains others.now) list.now }
-{
-    for f in list {
-        if !has(others, *f) {
-            return false;
-        }
-    }
-    true
 }
 
 /// The exact blocks of the list that others has too.
@@ -110,12 +86,12 @@ impl Passed {
     pub(crate) fn count(
         &mut self,
         codes: &Codes,
-        offsets: &mut Offsets,
+        known: &mut Known,
         exacts: &[Exact],
         block: u8,
         limit: u32,
     ) -> u32
-        requires told { AreTold codes.now offsets.old }
+        requires told { AreKnown codes.now known.old }
         requires kept { ArePassed codes.now self.old }
         requires among { All (Contains exacts.now) self.old.exacts.items }
         requires standing { All (IsStanding codes.now) exacts.now }
@@ -123,14 +99,14 @@ impl Passed {
         ensures hindered { AreHinderedTo codes.now exacts.now block result }
         ensures among { All (Contains exacts.now) self.new.exacts.items }
         ensures kept { ArePassed codes.now self.new }
-        ensures told { AreTold codes.now offsets.new }
+        ensures told { AreKnown codes.now known.new }
     {
         let _count = block_count(codes);
         let at = usize::from(block);
         if self.walked[at] {
             return self.counts[at];
         }
-        let count = first_clear(codes, offsets, self.exacts.as_slice(), block, limit);
+        let count = first_clear(codes, known, self.exacts.as_slice(), block, limit);
         self.counts[at] = count;
         self.walked[at] = true;
         count

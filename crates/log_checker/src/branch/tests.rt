@@ -6,7 +6,7 @@ ghost use Rattle.log_checker.specs.Forms.{HasForm};
 
 use super::branch_fault;
 use crate::form::has_form;
-use crate::offset::Offsets;
+use crate::known::Known;
 use crate::tests::yards::{are_few, has_block};
 use code_table::Codes;
 use refutation_log::{Record, read_log};
@@ -108,18 +108,9 @@ fn left(
             cites,
         } => {
             assert!(rt; are_below(cites.list(), earlier.len()));
-            let mut offsets = Offsets::new(alloc)?;
+            let mut known = Known::new(alloc)?;
             branch_fault(
-                alloc,
-                codes,
-                &mut offsets,
-                None,
-                earlier,
-                *block,
-                *lo,
-                *hi,
-                side,
-                cites,
+                alloc, codes, &mut known, None, earlier, *block, *lo, *hi, side, cites,
             )
         }
         Record::Fit { .. } => Ok(None),

@@ -1,39 +1,36 @@
-use Rattle.std.proofs.Common.{sym, ◌∙◌, arith}
-use Rattle.std.proofs.lemmas.Bool.{false≢true}
-use Rattle.log_checker.proofs.NearLaws.{hindered_here, near_standing}
-use Rattle.log_checker.proofs.NearPieceLaws.{near_exist}
-use Rattle.log_checker.proofs.WalkLaws.{hindered_to}
+use Rattle.std.proofs.Common.{sym, subst, arith}
+use Rattle.log_checker.proofs.ShutLaws.{shut_less, shut_near, skipped_on, skipped_shut}
+use Rattle.log_checker.specs.ShutCodes.{AreKnown}
 use Rattle.log_checker.proofs.walk.Walk.to_clear.Goals as goal
+use Rattle.log_checker.proofs.walk.Walk.to_clear.Goals.{then-shut-asked, else-shut-asked}
 
-pub hinders-requires-clause-standing : goal.hinders-requires-clause-standing
-hinders-requires-clause-standing c =
-    near_standing c.args.codes.now c.args.exacts.now c.of-near.result.exacts.items c.args.stretch.place c.of-near.ensures.exacts c.requires.standing
+pub returns-then-walk-to-clause-skipped : goal.returns-then-walk-to-clause-skipped
+returns-then-walk-to-clause-skipped c =
+    skipped_shut c.args.codes.now c.args.exacts.now c.args.spans.now c.args.block c.args.stretch.lo c.args.self.code c.shut_to-shut.result
+    c.on_from-walk.result.code c.requires.from (c.shut_to-shut.ensures c.args.codes.now c.requires.told.1) c.on_from-walk.ensures.skipped
 
-pub hinders-requires-clause-pieces : goal.hinders-requires-clause-pieces
-hinders-requires-clause-pieces c =
-    near_exist c.args.codes.now c.args.stretch.place c.of-near.result.pieces.items c.of-near.ensures.pieces
+pub on_to_clear-asked-requires-clause-shut : goal.on_to_clear-asked-requires-clause-shut
+on_to_clear-asked-requires-clause-shut c = c.shut_to-shut.ensures c.args.codes.now c.requires.told.1
 
-pub returns-then-not-hinders-clause-clear : goal.returns-then-not-hinders-clause-clear
-returns-then-not-hinders-clause-clear c =
-    let told = hindered_here c.args.codes.now c.args.exacts.now c.of-near.result.exacts.items c.of-near.result.pieces.items c.args.block
-    c.loop-walk.walk.code c.args.stretch c.place_in-place.result c.hinders.result c.place_in-place.ensures.value c.place_in-place.ensures.place
-    c.of-near.ensures.exacts c.of-near.ensures.pieces c.hinders.ensures.value in
-    λ below h. false≢true (sym c.if-not-hinders.true ∙ told.1 h)
+pub returns-clause-skipped : goal.returns-clause-skipped
+returns-clause-skipped c =
+    skipped_on c.args.codes.now c.args.exacts.now c.args.spans.now c.args.block c.args.self.code c.on_from-walk.result.code
+    c.on_to_clear-asked.result.walk.code
+    (skipped_shut c.args.codes.now c.args.exacts.now c.args.spans.now c.args.block c.args.stretch.lo c.args.self.code c.shut_to-shut.result
+    c.on_from-walk.result.code c.requires.from (c.shut_to-shut.ensures c.args.codes.now c.requires.told.1) c.on_from-walk.ensures.skipped)
+    c.on_to_clear-asked.ensures.skipped
 
-pub loop-walk-preserved : goal.loop-walk-preserved
-loop-walk-preserved c =
-    let told = hindered_here c.args.codes.now c.args.exacts.now c.of-near.result.exacts.items c.of-near.result.pieces.items c.args.block
-    c.loop-walk.walk.code c.args.stretch c.place_in-place.result c.hinders.result c.place_in-place.ensures.value c.place_in-place.ensures.place
-    c.of-near.ensures.exacts c.of-near.ensures.pieces c.hinders.ensures.value in
-    let forward = c.loop-walk.invariant.forward in
-    let from = c.on_from-walk.ensures.from in
-    record {
-      forward = omega arith;
-      within = c.on_from-walk.ensures.within;
-      passed = c.on_from-walk.ensures.passed;
-      left = c.on_from-walk.ensures.left;
-      told = c.hinders.ensures.told;
-      skipped = hindered_to c.args.codes.now c.args.block c.args.exacts.now c.args.spans.now c.args.self.code c.loop-walk.walk.code
-          c.on_from-walk.result.code c.loop-walk.invariant.skipped (told.0 c.if-not-hinders.false)
-          (λ k more below. c.on_from-walk.ensures.skipped k (omega arith) (omega arith) below);
-    }
+pub returns-clause-told : goal.returns-clause-told
+returns-clause-told c = elim c.if-shut-asked.branch [
+  | then-shut-asked w ↦
+      let most = w.min.ensures in
+      subst (AreKnown c.args.codes.now) (sym w.known-is) (
+        c.on_to_clear-asked.ensures.told,
+        w.keep.ensures c.args.codes.now c.requires.told.1
+            (shut_near c.args.codes.now c.args.exacts.now c.of-near.result.exacts.items c.args.block w.min.result c.args.stretch c.requires.stretch
+            c.of-near.ensures.exacts (omega arith)
+            (shut_less c.args.codes.now c.args.exacts.now c.args.block c.args.stretch.lo c.on_to_clear-asked.result.shut w.min.result (omega arith)
+            c.on_to_clear-asked.ensures.shut)),
+      )
+  | else-shut-asked w ↦ subst (AreKnown c.args.codes.now) (sym w.known-is) (c.on_to_clear-asked.ensures.told, c.requires.told.1)
+]

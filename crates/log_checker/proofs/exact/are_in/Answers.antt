@@ -1,5 +1,5 @@
 use Rattle.log_checker.proofs.PassedLaws.{among_more}
-use Rattle.log_checker.proofs.passed.are_in.Goals as goal
+use Rattle.log_checker.proofs.exact.are_in.Goals as goal
 
 pub loop-f-preserved : goal.loop-f-preserved
 loop-f-preserved c =

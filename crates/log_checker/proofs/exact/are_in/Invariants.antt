@@ -1,7 +1,7 @@
 use Rattle.std.proofs.Common.{ℕ, ◌<◌, get_or}
 use Rattle.std.specs.Prelude.{Contains}
 use Rattle.log_checker.specs.declared.exact.Exact.{Exact}
-use Rattle.log_checker.proofs.passed.are_in.Given as goal
+use Rattle.log_checker.proofs.exact.are_in.Given as goal
 
 -- the first of the list are among the others
 abbrev pub invariant-loop-f : goal.invariant-loop-f
