@@ -7,6 +7,7 @@ use Rattle.plate_calendar.specs.Calendars.{open_days}
 use Rattle.code_table.specs.declared.table.Table.{Table}
 use Rattle.code_table.specs.Costs.{IsLeastCost}
 use Rattle.code_table.specs.Placements.{placements_of}
+use Rattle.code_table.specs.Sizes.{most_placements}
 use Rattle.code_table.specs.Stands.{stands, sum_to}
 
 -- before each stand, how many placements the stands before it have, and last how many all have
@@ -22,7 +23,7 @@ pub record IsTable (yard : PlainYard) (block : Block) (t : Table) : Type 0 where
   pub sums : IsSums yard block t.sums.items
   pub count : t.count ≡ length (placements_of yard block)
   pub least_is : IsLeastCost block (placements_of yard block) t.least
-  pub few : length (placements_of yard block) ≤ 1048576
+  pub few : length (placements_of yard block) ≤ most_placements
 
 -- each block has its table
 pub record AreTables (yard : PlainYard) (tables : List Table) : Type 0 where

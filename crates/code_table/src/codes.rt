@@ -10,6 +10,7 @@ ghost use Rattle.code_table.specs.Codes.{IsCode};
 ghost use Rattle.code_table.specs.Orders.{AreAscending, EndsAscend};
 ghost use Rattle.code_table.specs.Costs.{IsAtMostEachCost, IsCostOfSome};
 ghost use Rattle.code_table.specs.Placements.{placements, own_cost, IsPlacement};
+ghost use Rattle.code_table.specs.Sizes.{CanBePlanned, most_placements};
 ghost use Rattle.code_table.specs.Spots.{IsSpot};
 ghost use Rattle.code_table.specs.Stretches.{HasEach, IsStretch, nth_place};
 ghost use Rattle.code_table.specs.Tables.{IsTable};
@@ -55,11 +56,9 @@ fn copy_of(yard: &Yard) -> Result<Yard, AllocError>
 }
 
 impl Codes {
-    /// The codes of the yard's blocks. The yard is copied.
+    /// The codes of the yard's blocks. The yard is copied. [`crate::can_be_planned`] says whether there are any.
     pub fn new(alloc: Global, yard: &Yard) -> Result<Codes, NoMemory>
-        requires plates { 1 ≤ length yard.now.plates }
-        requires blocks { 1 ≤ length yard.now.blocks }
-        requires few { (b : ℕ) → b < length yard.now.blocks → length (placements yard.now b) ≤ 1048576 }
+        requires { CanBePlanned yard.now }
         ensures { IfOk result (λ c. c ≡ yard.now) }
     {
         let calendars = calendars_of(yard);
@@ -78,7 +77,7 @@ impl Codes {
         ensures limits { IsYard self.now }
         ensures plates { 1 ≤ length self.now.plates }
         ensures blocks { 1 ≤ length self.now.blocks }
-        ensures few { (b : ℕ) → length (placements self.now b) ≤ 1048576 }
+        ensures few { (b : ℕ) → length (placements self.now b) ≤ most_placements }
     {
         &self.yard
     }
@@ -124,7 +123,7 @@ impl Codes {
     pub fn count(&self, block: u8) -> u32
         requires { block < length self.now.blocks }
         ensures value { result ≡ length (placements self.now block) }
-        ensures few { result ≤ 1048576 }
+        ensures few { result ≤ most_placements }
     {
         self.table(block).count
     }

@@ -4,6 +4,7 @@ ghost use Rattle.shape_exact.specs.Yards.{IsYard, IsBlock};
 ghost use Rattle.plate_calendar.specs.Calendars.{open_days};
 ghost use Rattle.code_table.specs.Placements.{placements_of};
 ghost use Rattle.code_table.specs.Grids.{columns};
+ghost use Rattle.code_table.specs.Sizes.{most_placements};
 ghost use Rattle.code_table.specs.Spots.{IsSpot, spot_placement};
 ghost use Rattle.code_table.specs.Tables.{IsSums};
 
@@ -37,7 +38,7 @@ pub(crate) fn spot_of(
     requires calendars { calendars.now ≡ map (λ p. open_days yard.now.days p.closed) yard.now.plates }
     requires block { IsBlock block.now }
     requires sums { IsSums yard.now block.now sums.now }
-    requires few { length (placements_of yard.now block.now) ≤ 1048576 }
+    requires few { length (placements_of yard.now block.now) ≤ most_placements }
     requires code { code < length (placements_of yard.now block.now) }
     ensures { IsSpot yard.now block.now code result }
 {

@@ -4,6 +4,7 @@ ghost use Rattle.shape_exact.specs.Shapes.{turned};
 ghost use Rattle.shape_exact.specs.Yards.{IsBlock};
 ghost use Rattle.plate_calendar.specs.Calendars.{open_days};
 ghost use Rattle.code_table.specs.Placements.{placements, placements_of};
+ghost use Rattle.code_table.specs.Sizes.{most_placements};
 ghost use Rattle.code_table.specs.Tables.{IsSums, IsTable, AreTables};
 
 use crate::count::stand_len;
@@ -37,7 +38,7 @@ fn sums_of(
     requires block { IsBlock block.now }
     requires turns { length shapes.now ≡ 4 }
     requires shapes { (q : ℕ) → q < 4 → slice_get shapes.now q ≡ Some (turned q block.now.shape) }
-    requires few { length (placements_of yard.now block.now) ≤ 1048576 }
+    requires few { length (placements_of yard.now block.now) ≤ most_placements }
     ensures { IfOk result (λ s. IsSums yard.now block.now s.items) }
 {
     let count = stands(yard);
@@ -68,7 +69,7 @@ fn table_of(
 ) -> Result<Table, NoMemory>
     requires calendars { calendars.now ≡ map (λ p. open_days yard.now.days p.closed) yard.now.plates }
     requires block { IsBlock block.now }
-    requires few { length (placements_of yard.now block.now) ≤ 1048576 }
+    requires few { length (placements_of yard.now block.now) ≤ most_placements }
     ensures { IfOk result (λ t. IsTable yard.now block.now t) }
 {
     let shapes = turns_of(&block.shape);
@@ -91,7 +92,7 @@ pub(crate) fn tables_of(
     calendars: &[Calendar],
 ) -> Result<Vec<Table>, NoMemory>
     requires calendars { calendars.now ≡ map (λ p. open_days yard.now.days p.closed) yard.now.plates }
-    requires few { (b : ℕ) → b < length yard.now.blocks → length (placements yard.now b) ≤ 1048576 }
+    requires few { (b : ℕ) → b < length yard.now.blocks → length (placements yard.now b) ≤ most_placements }
     ensures { IfOk result (λ t. AreTables yard.now t.items) }
 {
     let blocks = yard.blocks();

@@ -1,29 +1,15 @@
 //! Codes against a plain listing of the placements, and the counts of worked yards.
-ghost use Rattle.std.specs.Prelude.{ℕ, ◌≤◌, ◌<◌, length, IsTrue};
-ghost use Rattle.code_table.specs.Placements.{placements};
 
 mod listing;
 mod yards;
 
-use crate::{Codes, Placement, placement_count};
+use crate::{Codes, Placement, can_be_planned, placement_count};
 use listing::listing;
 use shape_exact::Yard;
 use std::alloc::Global;
 use std::process::Abort;
 use std::test::Fail;
 use yards::{Row, yard_of};
-
-/// Whether no block has more placements than a table of codes takes.
-fn are_few(yard: &Yard) -> bool
-    ensures { IsTrue result → (b : ℕ) → b < length yard.now.blocks → length (placements yard.now b) ≤ 1048576 }
-{
-    for b in 0..yard.blocks().len() {
-        if placement_count(yard, b as u8) > 1048576 {
-            return false;
-        }
-    }
-    true
-}
 
 /// The codes of a block agree with the listing, one by one.
 fn agree(rt: &impl Abort, alloc: Global, codes: &Codes, block: u8) -> Result<(), Fail> {
@@ -83,8 +69,7 @@ fn stretches_share_a_start_a_plate_and_a_turn(rt: HostRuntime) -> Result<(), Fai
     ];
     for row in &rows {
         let yard = yard_of(&rt, row);
-        assert!(rt; !yard.plates().is_empty() && !yard.blocks().is_empty());
-        assert!(rt; are_few(&yard));
+        assert!(rt; can_be_planned(&yard));
         let codes = Codes::new(rt.alloc(), &yard)?;
         stretches_agree(&rt, rt.alloc(), &codes, 0)?;
     }
@@ -121,8 +106,7 @@ fn codes_are_positions_in_the_listing(rt: HostRuntime) -> Result<(), Fail> {
     ];
     for row in &rows {
         let yard = yard_of(&rt, row);
-        assert!(rt; !yard.plates().is_empty() && !yard.blocks().is_empty());
-        assert!(rt; are_few(&yard));
+        assert!(rt; can_be_planned(&yard));
         let codes = Codes::new(rt.alloc(), &yard)?;
         agree(&rt, rt.alloc(), &codes, 0)?;
     }

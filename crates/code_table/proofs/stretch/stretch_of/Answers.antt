@@ -1,8 +1,7 @@
-use Rattle.std.proofs.Common.{◌≡◌, ◌+◌, ◌-◌, ◌<◌, length, get_or, ap, sym, ◌∙◌, subst, refl, arith}
+use Rattle.std.proofs.Common.{◌-◌, ◌<◌, length, get_or, ap, sym, ◌∙◌, subst, refl, arith}
 use Rattle.std.proofs.lemmas.Option.{same_Some}
-use Rattle.shape_exact.specs.Yards.{PlainYard}
 use Rattle.code_table.specs.Tables.{IsSums}
-use Rattle.code_table.proofs.ReadLaws.{plate_limits, read_at}
+use Rattle.code_table.proofs.ReadLaws.{read_at}
 use Rattle.code_table.proofs.SpotLaws.{some_stand, few_stands, in_stand, not_empty}
 use Rattle.code_table.proofs.StretchLaws.{stretch_all, stretch_end, stretch_is}
 use Rattle.code_table.proofs.TableLaws.{count_at}
