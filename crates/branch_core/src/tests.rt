@@ -2,37 +2,15 @@
 
 use crate::{plan_with_log, solve};
 use branch_kernel::{OneBar, count_of};
-use code_table::{Codes, placement_count};
+use code_table::Codes;
 use nogood_store::Nogoods;
 use plain_search::best_plan;
 use plan_rule::{Job, Literal, Plan, PlanBox, block_count};
 use refutation_log::{Log, Record, write_log};
-use shape_exact::{NoMemory, Yard};
+use sample_yards::{TWO_SQUARES, TWO_TRIANGLES, codes_in};
+use shape_exact::NoMemory;
 use std::alloc::Global;
 use std::test::Fail;
-use yard_file::read_yard;
-
-/// The codes of a yard with plates and blocks that have few placements; None for another yard.
-fn codes_of(alloc: Global, yard: &Yard) -> Result<Option<Codes>, NoMemory> {
-    if yard.plates().is_empty() || yard.blocks().is_empty() {
-        return Ok(None);
-    }
-    for block in 0..yard.blocks().len() {
-        if placement_count(yard, block as u8) > 1_048_576 {
-            return Ok(None);
-        }
-    }
-    let codes = Codes::new(alloc, yard)?;
-    Ok(Some(codes))
-}
-
-/// The codes of the yard with these days, plates and blocks.
-fn codes_in(alloc: Global, days: u16, plates: &str, blocks: &str) -> Result<Option<Codes>, Fail> {
-    let text = format!(in alloc; "version=1\ndays={days}\nplate=[{plates}]\nblock=[{blocks}]\n")?;
-    let yard = read_yard(alloc, text.as_bytes())?;
-    let codes = codes_of(alloc, &yard)?;
-    Ok(codes)
-}
 
 /// The codes of the plan; none where there is no plan.
 fn codes_told(alloc: Global, best: &Option<Plan>) -> Result<Vec<u32>, NoMemory> {
@@ -73,9 +51,7 @@ fn small_yards_have_these_plans_and_logs(rt: HostRuntime) -> Result<(), Fail> {
         ),
         (1, tall, wide, none, "log 1\nbranch 0 0 0 - -\nend\n"),
     ] {
-        let Some(codes) = codes_in(rt.alloc(), days, plates, blocks)? else {
-            panic!(rt; "{blocks}");
-        };
+        let codes = codes_in(rt.alloc(), days, plates, blocks)?;
         let planned = plan_with_log(rt.alloc(), &codes)?;
         let told = codes_told(rt.alloc(), &planned.best)?;
         assert!(rt; told.as_slice() == best, "{blocks}");
@@ -100,9 +76,7 @@ fn seen_of(alloc: Global, codes: &Codes) -> Result<u64, NoMemory> {
 /// The key of the plan 0, 4: its total 10 and its path number 67,108,864.
 #[test]
 fn two_squares_end_with_the_key_of_their_plan(rt: HostRuntime) -> Result<(), Fail> {
-    let Some(codes) = codes_in(rt.alloc(), 10, PLATE, SQUARES)? else {
-        panic!(rt; "two squares");
-    };
+    let codes = sample_yards::codes_of(rt.alloc(), TWO_SQUARES)?;
     assert_eq!(rt; seen_of(rt.alloc(), &codes)?, 43_016_781_824);
     Ok(())
 }
@@ -130,10 +104,7 @@ fn made_yards_have_the_plans_of_the_plain_search(rt: HostRuntime) -> Result<(), 
         let text = format!(in rt.alloc();
             "version=1\ndays=4\n[[plate]]\nname='P'\nwidth=3\nheight=2\n{one}{two}{three}"
         )?;
-        let yard = read_yard(rt.alloc(), text.as_bytes())?;
-        let Some(codes) = codes_of(rt.alloc(), &yard)? else {
-            panic!(rt; "{text}");
-        };
+        let codes = sample_yards::codes_of(rt.alloc(), text.as_bytes())?;
         let planned = plan_with_log(rt.alloc(), &codes)?;
         let plain = best_plan(rt.alloc(), &codes)?;
         let told = codes_told(rt.alloc(), &planned.best)?;
@@ -171,12 +142,7 @@ fn takes_the_hit(alloc: Global, codes: &Codes) -> Result<bool, NoMemory> {
 /// Two triangles that may not be turned: the fit of the first one's code is Never.
 #[test]
 fn a_stored_box_costs_one_record(rt: HostRuntime) -> Result<(), Fail> {
-    let tall = "{name='P',width=4,height=4}";
-    let fixed = "{name='A',shape=[[0,0],[4,0],[0,4]],duration=1,due=0},\
-        {name='B',shape=[[0,0],[4,0],[0,4]],duration=1,due=0}";
-    let Some(codes) = codes_in(rt.alloc(), 1, tall, fixed)? else {
-        panic!(rt; "two triangles");
-    };
+    let codes = sample_yards::codes_of(rt.alloc(), TWO_TRIANGLES)?;
     assert!(rt; takes_the_hit(rt.alloc(), &codes)?);
     Ok(())
 }

@@ -11,11 +11,12 @@ use meeting::Meeting;
 use nogood_store::Nogoods;
 use plan_rule::{Job, Plan, halves};
 use refutation_log::{Log, Record};
+use sample_yards::{ONE_CODE, TWO_SQUARES, TWO_TRIANGLES};
 use std::alloc::Global;
 use std::process::Abort;
 use steal_rule::deque;
 use yard_io::OpenGate;
-use yards::{ONE_CODE, TWO_SQUARES, TWO_TRIANGLES, codes_of};
+use yards::codes_of;
 
 /// The key of the best plan of the two squares, with the codes 0 and 4.
 const BEST: u64 = 43_016_781_824;

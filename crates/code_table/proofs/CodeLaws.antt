@@ -62,12 +62,6 @@ off_rows plate shape y x p off = λ j i l m ey ex. off (ap (λ q. q * plate.pitc
 pub off_columns : (plate : Plate) (shape : List Point) (y x : ℕ) → 0 < plate.pitch → (x / plate.pitch * plate.pitch ≡ x → ⊥) → IsNoPosition plate shape y x
 off_columns plate shape y x p off = λ j i l m ey ex. off (ap (λ q. q * plate.pitch) (multiple i plate.pitch x p ex) ∙ ex)
 
-pub above_rows : (plate : Plate) (shape : List Point) (y x : ℕ) → 0 < plate.pitch → rows plate shape ≤ y / plate.pitch → IsNoPosition plate shape y x
-above_rows plate shape y x p above = λ j i l m ey ex. let q = multiple j plate.pitch y p ey in omega arith
-
-pub past_columns : (plate : Plate) (shape : List Point) (y x : ℕ) → 0 < plate.pitch → columns plate shape ≤ x / plate.pitch → IsNoPosition plate shape y x
-past_columns plate shape y x p past = λ j i l m ey ex. let q = multiple i plate.pitch x p ex in omega arith
-
 -- a placement has a row and a column
 pub position_of_placement : (yard : PlainYard) (block : Block) (p : Placement) (plate : Plate) (shape : List Point) → IsYard yard
     → IsPlacement yard block p → slice_get yard.plates p.plate ≡ Some plate → shape ≡ turned p.turn block.shape

@@ -147,13 +147,6 @@ cost_few block end is l =
           omega arith
     ]
 
--- the cost before the due day, and from it on
-pub cost_before : (block : Block) (end : ℕ) → end < block.due → block.early * (block.due - end) ≡ cost_on block end
-cost_before block end l = let z = ap (λ n. block.weight * n) (let e : end - block.due ≡ 0 = omega arith in e) in omega (arith, z)
-
-pub cost_after : (block : Block) (end : ℕ) → block.due ≤ end → block.weight * (end - block.due) ≡ cost_on block end
-cost_after block end l = let z = ap (λ n. block.early * n) (let e : block.due - end ≡ 0 = omega arith in e) in omega (arith, z)
-
 -- no cost is above 400,000
 pub least_few : (yard : PlainYard) (b : ℕ) (block : Block) (o : Option ℕ) → IsYard yard → slice_get yard.blocks b ≡ Some block
     → IsLeastCost block (placements_of yard block) o → IfSome o (λ c. c ≤ 400000)

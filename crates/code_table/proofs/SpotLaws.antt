@@ -39,10 +39,6 @@ few_stands yard y =
     let d = y.days in let p = y.few_plates in
     let m = mul-le yard.days (length yard.plates * 4) 400 32 (omega arith) (omega arith) in omega arith
 
--- what the sums say at both ends
-pub sums_first : (yard : PlainYard) (block : Block) (sums : List ℕ) → IsSums yard block sums → get_or sums 0 0 ≡ 0
-sums_first yard block sums s = s.counted 0 (omega arith)
-
 -- a code between two sums is a place of the stand between them
 pub in_stand : (yard : PlainYard) (block : Block) (sums : List ℕ) (k code : ℕ) → IsSums yard block sums → k + 1 < length sums
     → get_or sums k 0 ≤ code → code < get_or sums (k + 1) 0

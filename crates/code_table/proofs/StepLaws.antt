@@ -6,9 +6,7 @@ use Rattle.std.proofs.lemmas.Bool.{le-leb, lt-leb}
 use Rattle.std.proofs.lemmas.Nat.{div-add-mod', mod_below, mul-le}
 use Rattle.shape_exact.specs.Each.{each, when}
 use Rattle.shape_exact.proofs.EachLaws.{each-add, each_agree, each-nil, length-each, sum_below-const}
-use Rattle.code_table.specs.declared.placement.Placement.{Placement}
-use Rattle.shape_exact.specs.declared.plate.Plate.{Plate}
-use Rattle.code_table.specs.Placements.{at_step, each_step, row_of, grid_of}
+use Rattle.code_table.specs.Placements.{at_step, each_step}
 
 when_true : {A : Type 0} (b : Bool) (xs : List A) → b ≡ true → when b xs ≡ xs
 when_true true xs e = refl
@@ -50,14 +48,3 @@ each_step-none pitch long size f l =
 
 pub length-one : {A : Type 0} (n : ℕ) (f : ℕ → A) → length (each n (λ k. f k ∷ [])) ≡ n
 length-one n f = length-each n (λ k. f k ∷ []) ∙ sum_below-const n 1 (λ k. length (f k ∷ [])) (λ i l. refl) ∙ (let e : n * 1 ≡ n = omega arith in e)
-
--- a grid with room has so many rows of so many placements
-pub length-grid : (plate : Plate) (high long : ℕ) (f : ℕ → ℕ → Placement) → 0 < plate.pitch → high ≤ plate.height → long ≤ plate.width
-    → length (grid_of plate high long f) ≡ ((plate.height - high) / plate.pitch + 1) * ((plate.width - long) / plate.pitch + 1)
-length-grid plate high long f p h w =
-    ap length (each_step-fits plate.pitch high plate.height (λ y. row_of plate long (f y)) p h)
-    ∙ length-each ((plate.height - high) / plate.pitch + 1) (λ k. row_of plate long (f (k * plate.pitch)))
-    ∙ sum_below-const ((plate.height - high) / plate.pitch + 1) ((plate.width - long) / plate.pitch + 1)
-    (λ k. length (row_of plate long (f (k * plate.pitch))))
-    (λ k l. ap length (each_step-fits plate.pitch long plate.width (λ x. f (k * plate.pitch) x ∷ []) p w)
-    ∙ length-one ((plate.width - long) / plate.pitch + 1) (λ i. f (k * plate.pitch) (i * plate.pitch)))

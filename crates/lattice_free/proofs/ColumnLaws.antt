@@ -1,29 +1,10 @@
 -- Multiples of a pitch below a number.
-use Rattle.std.proofs.Common.{◌≡◌, ℕ, ◌+◌, ◌*◌, ◌/◌, ◌%◌, ◌<◌, ◌≤◌, ◌↔◌, min, arith, ap, ⊎_elim}
-use Rattle.std.specs.Int.{div_ceil}
+use Rattle.std.proofs.Common.{◌≡◌, ℕ, ◌+◌, ◌<◌, ◌≤◌, ◌↔◌, min, arith, ⊎_elim}
 use Rattle.std.proofs.lemmas.Int.{ints, by_lt_z}
 use lib.IntN.{ℤ, pos, ◌+ℤ◌}
 use lib.Signed.{◌<ℤ◌, ◌≤ℤ◌}
 use Rattle.lattice_free.specs.Gaps.{IsBetween}
-use Rattle.std.proofs.Math.Nat.{mul-le-mul_right}
 use Rattle.std.proofs.lemmas.Bool.{cases_lt}
-use Rattle.std.proofs.lemmas.Nat.{div-add-mod', mod_below}
-
--- the k-th multiple lies below x exactly where k is below the quotient rounded up
-pub below_ceil : (x p k : ℕ) → 1 ≤ p → (k < div_ceil x p) ↔ (k * p < x)
-below_ceil x p k h = (λ l. down (x / p) (x % p) l (div-add-mod' x p) (mod_below x p (omega arith)), λ l. up (x / p) (x % p) l (div-add-mod' x p) (mod_below x p (omega arith)))
-  where
-    down : (q r : ℕ) → k < q + min 1 r → q * p + r ≡ x → r < p → k * p < x
-    down q r l e m = ⊎_elim (λ o. let n = mul-le-mul_right p o in omega arith) (λ o. let i : k ≡ q = omega arith in let n = ap (λ (j : ℕ). j * p) i in omega arith) (cases_lt k q)
-
-    none : (q r : ℕ) → q + min 1 r ≤ k → k * p < x → q * p + r ≡ x → r < p → r ≡ 0 → ⊥
-    none q r o l e m z = let i : q ≤ k = omega arith in let n = mul-le-mul_right p i in omega arith
-
-    some : (q r : ℕ) → q + min 1 r ≤ k → k * p < x → q * p + r ≡ x → r < p → 0 < r → ⊥
-    some q r o l e m z = let i : q + 1 ≤ k = omega arith in let n = mul-le-mul_right p i in omega arith
-
-    up : (q r : ℕ) → k * p < x → q * p + r ≡ x → r < p → k < q + min 1 r
-    up q r l e m = ⊎_elim (λ o. o) (λ o. ⊎_elim (λ z. absurd (some q r o l e m z)) (λ z. absurd (none q r o l e m (omega arith))) (cases_lt 0 r)) (cases_lt k (q + min 1 r))
 
 -- ---- the columns between two numbers
 no_left : (low : ℤ) (n k from : ℕ) → (k < from) ↔ (pos n <ℤ low) → from ≤ k → low ≤ℤ pos n

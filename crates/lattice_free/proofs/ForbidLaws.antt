@@ -2,7 +2,7 @@
 use Rattle.std.proofs.Common.{ℕ, suc, ◌+◌, ◌<◌, ◌≤◌, List, [], ◌∷◌, ◌++◌, length, take, get_or, subst, arith}
 use Rattle.std.specs.List.Sorted.{IsPermutation, IsNonDecreasingBy}
 use Rattle.std.proofs.lemmas.List.{take_more}
-use Rattle.std.proofs.lemmas.List.Elements.{All-nil, All-more, All-push}
+use Rattle.std.proofs.lemmas.List.Elements.{All-more, All-push}
 use Rattle.std.proofs.lemmas.List.Sorted.{All-permutation, IsPermutation-sym}
 use Rattle.shape_exact.specs.declared.point.Point.{Point}
 use Rattle.shape_exact.proofs.BridgeLaws.{every_from_All}
@@ -14,11 +14,6 @@ use Rattle.lattice_free.specs.Runs.{place}
 use Rattle.lattice_free.specs.Clear.{IsClear, AreClear, AreForbidden}
 use Rattle.lattice_free.proofs.GapLaws.{Ascends}
 
-pub forbidden_none : (pitch row columns : ℕ) (fs : List (Pair × Point)) → AreForbidden (take 0 fs) pitch row columns []
-forbidden_none pitch row columns fs = record {
-  fits = All-nil (FitsWithin columns);
-  clear = λ k l h. All-nil (λ o. IsClear (place pitch row k) o.0 o.1);
-  missed = λ k l h. All-nil (Misses k);
 }
 
 clear_back : (fs : List (Pair × Point)) (i : ℕ) (d : Pair × Point) (p : Point) → i < length fs → AreClear (take (i + 1) fs) p → AreClear (take i fs) p × IsClear p (get_or fs i d).0 (get_or fs i d).1

@@ -26,10 +26,6 @@ pub every_append : {A : Type 0} (P : A → Type 0) (xs ys : List A) → Every P 
 every_append P [] ys h k = k
 every_append P (x ∷ xs) ys h k = (h.0, every_append P xs ys h.1 k)
 
-pub every_always : {A : Type 0} (P : A → Type 0) (f : (a : A) → P a) (xs : List A) → Every P xs
-every_always P f [] = tt
-every_always P f (x ∷ xs) = (f x, every_always P f xs)
-
 pub rises-append : (xs ys : List Point) → Rises xs → Rises ys → Every (λ x. Every (IsBefore x) ys) xs → Rises (xs ++ ys)
 rises-append [] ys h k b = k
 rises-append (x ∷ xs) ys h k b = (every_append (IsBefore x) xs ys h.0 b.0, rises-append xs ys h.1 k b.1)

@@ -18,7 +18,7 @@ use Rattle.minkowski_obstacles.proofs.SideLaws.{all_from_every, contains_from}
 use Rattle.lattice_free.specs.declared.run.Run.{Run}
 use Rattle.lattice_free.specs.declared.stretch.Stretch.{Stretch}
 use Rattle.lattice_free.specs.Order.{IsBefore}
-use Rattle.lattice_free.specs.Runs.{place, run_points, points_of, IsRun, IsPitch, AreRuns}
+use Rattle.lattice_free.specs.Runs.{place, run_points, points_of, IsRun, IsPitch}
 use Rattle.lattice_free.specs.Gaps.{gaps, FitsWithin, Misses}
 use Rattle.lattice_free.specs.Clear.{AreClear, AreForbidden}
 use Rattle.lattice_free.specs.FreePositions.{IsFree, AreFree}
@@ -28,9 +28,6 @@ use Rattle.lattice_free.proofs.ForbidLaws.{ascends_from}
 use lib.IntN.{ℤ, pos, ◌+ℤ◌}
 use lib.Signed.{◌<ℤ◌, ◌≤ℤ◌}
 use Rattle.std.proofs.Math.Nat.{mul-le-mul_right}
-
-pub grid_none : (fixed : List (Pair × Point)) (pitch columns : ℕ) → IsGrid fixed pitch columns 0 []
-grid_none fixed pitch columns = record { each = tt; rises = tt; below = tt; few = omega arith; sound = tt; complete = λ j k l. absurd (omega arith) }
 
 points-append : (pitch : ℕ) (rs ts : List Run) → points_of pitch (rs ++ ts) ≡ points_of pitch rs ++ points_of pitch ts
 points-append pitch rs ts = flat_map-append (run_points pitch) rs ts
@@ -112,9 +109,6 @@ pairs_from (p ∷ ps) h = λ i j d a b. at i j d a b (pairs_from ps h.1)
     at i zero d a b t = absurd (omega arith)
     at zero (suc j) d a b t = all_from_every (IsBefore p) ps h.0 j d (omega arith)
     at (suc i) (suc j) d a b t = t i j d (omega arith) (omega arith)
-
-pub runs_from : (fixed : List (Pair × Point)) (pitch columns rows : ℕ) (runs : List Run) → IsPitch pitch → rows ≤ 401 → IsGrid fixed pitch columns rows runs → AreRuns pitch runs
-runs_from fixed pitch columns rows runs p r g = record { steps = p; each = all_from_every IsRun runs g.each; few = (let f = g.few in omega arith) }
 
 -- clear of each obstacle is apart from each fixed shape, where all are of the one moving shape
 apart_from : (shape : List Point) (fixed : List (Pair × Point)) (p : Point) → All (λ o. o.0.moving ≡ shape) fixed → AreClear fixed p → All (λ o. AreApart o.0.fixed o.1 shape p) fixed

@@ -1,5 +1,5 @@
 -- What is left of the runs, one position after another.
-use Rattle.std.proofs.Common.{◌≡◌, ℕ, suc, ◌+◌, ◌-◌, ◌<◌, List, [], ◌∷◌, ◌++◌, map, refl, ap, ◌∙◌, arith}
+use Rattle.std.proofs.Common.{◌≡◌, ℕ, suc, ◌+◌, ◌-◌, ◌<◌, List, [], ◌∷◌, ◌++◌, map, ap, arith}
 use Rattle.std.specs.List.{All, range_with_len}
 use Rattle.std.proofs.lemmas.List.Elements.{All-head}
 use Rattle.lattice_free.specs.declared.run.Run.{Run}
@@ -15,22 +15,6 @@ range_more a b h = ap (range_with_len a) e
 -- the next position, and what is left after it
 pub left_more : (pitch column : ℕ) (r : Run) (rs : List Run) → column < r.to → left_of pitch column (r ∷ rs) ≡ place pitch r.row column ∷ left_of pitch (column + 1) (r ∷ rs)
 left_more pitch column r rs h = ap (λ (ks : List ℕ). map (place pitch r.row) ks ++ points_of pitch rs) (range_more column r.to h)
-
--- past the first run the later ones are left, from their first column on
-pub left_later : (pitch column : ℕ) (r : Run) (rs : List Run) → column ≡ r.to → left_of pitch column (r ∷ rs) ≡ left_of pitch (first_from rs) rs
-left_later pitch column r rs h = ap (λ (n : ℕ). map (place pitch r.row) (range_with_len column n) ++ points_of pitch rs) e ∙ left_start rs
-  where
-    e : r.to - column ≡ 0
-    e = omega arith
-
-    left_start : (rs : List Run) → points_of pitch rs ≡ left_of pitch (first_from rs) rs
-    left_start [] = refl
-    left_start (r ∷ rs) = refl
-
--- what is left of all runs
-pub left_all : (pitch : ℕ) (rs : List Run) → left_of pitch (first_from rs) rs ≡ points_of pitch rs
-left_all pitch [] = refl
-left_all pitch (r ∷ rs) = refl
 
 pub left_whole : (pitch : ℕ) (rs : List Run) → IsPitch pitch → All IsRun rs → AreLeft pitch (first_from rs) rs
 left_whole pitch [] p h = record { steps = p; each = h; within = tt }

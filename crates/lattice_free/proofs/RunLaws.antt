@@ -28,12 +28,6 @@ find_at q f a (suc n) j l r h t = ⊎_elim (λ o. later o (find_at q f (a + 1) n
     here : j ≤ a → find q (map f (range_with_len a (suc n))) ≡ Some (f j)
     here o = let e : j ≡ a = omega arith in cond-true (q (f a)) _ _ (subst (λ (k : ℕ). q (f k) ≡ true) e t) ∙ ap (λ (k : ℕ). Some (f k)) (sym e)
 
-pub from_above : (pitch row k y x : ℕ) → y < row * pitch → is_from y x (place pitch row k) ≡ true
-from_above pitch row k y x h = grind (arith, lt-ltb)
-
-pub from_below : (pitch row k y x : ℕ) → row * pitch < y → is_from y x (place pitch row k) ≡ false
-from_below pitch row k y x h = grind (arith, lt-ltb, le-ltb)
-
 pub from_right : (pitch row k y x : ℕ) → row * pitch ≡ y → x ≤ k * pitch → is_from y x (place pitch row k) ≡ true
 from_right pitch row k y x e h = grind (arith, lt-ltb, le-ltb)
 

@@ -4,7 +4,7 @@ use Rattle.std.specs.Prelude.{slice_get, ◌&&◌, if◌then◌else◌, ◌↔�
 use Rattle.std.proofs.lemmas.Bool.{cases_lt, eq-eqb, eqb-true}
 use Rattle.std.proofs.lemmas.List.Elements.{All-nil, All-cons}
 use Rattle.std.proofs.lemmas.Option.{none-some}
-use Rattle.plan_rule.specs.Boxes.{IsBox, IsLiteral, Covers, with_literal, exact}
+use Rattle.plan_rule.specs.Boxes.{IsBox, IsLiteral, with_literal, exact}
 use Rattle.plan_rule.specs.Choices.{Choices, blocks, count}
 use Rattle.plan_rule.specs.Fronts.{HasCodes}
 use Rattle.plan_rule.specs.Plans.{IsAnswer}
@@ -43,10 +43,6 @@ shown_covers c log k some_block some_codes (r, at, is, holds) exist = record {
   covers = λ code m. covers_held c (with_literal [] (exact 0 code)) (result_of c r) some_codes (one_box c code some_block m) is (λ p plan h. holds p (plan, omega arith, (let b = path-below c p in omega arith)));
   exist = exist;
 }
-
--- a record that refutes every plan does, too
-pub empty_covers : (c : Choices) (log : List Record) (k : ℕ) (r : Record) → slice_get log k ≡ Some r → result_of c r ≡ [] → AllExist c log → CoversRoot c log k
-empty_covers c log k r at is exist = record { root = r; at = at; covers = λ code m. subst (λ box. Covers c box (with_literal [] (exact 0 code))) (sym is) (λ i d l. absurd (omega arith)); exist = exist }
 
 closing_is_step : (c : Choices) (t : Option (List ℕ)) (log : List Record) (k : ℕ) → 0 < blocks c → CoversRoot c log k → IsStep c t log (Branch 0 0 (count c 0) [] (k ∷ []))
 closing_is_step c t log k some_block h = record {

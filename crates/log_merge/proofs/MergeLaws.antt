@@ -104,19 +104,6 @@ middle_fits c job leaves at log m l = let h = half_width job l in let f = fits_o
 half_is : (job : Job) → job.length < 32 → width (lower job) ≡ 2 ^ (31 - job.length)
 half_is job l = ap (λ n. 2 ^ n) (let e : 32 - (job.length + 1) ≡ 31 - job.length = omega arith in e)
 
-pub goes_lower : (c : Choices) (job low : Job) (leaves : List Leaf) (at : ℕ) (log : List Record) (d : Leaf) → IsMergeable c job leaves at log → job.length < (get_or leaves at d).job.length → low ≡ lower job
-    → IsMergeable c low leaves at log
-goes_lower c job low leaves at log d m l is =
-    let short = longer c job leaves at log d m l in
-    let (i, front, chain, is_job, half) = first_leaf c job leaves at log d m in
-    subst (λ (j : Job). IsMergeable c j leaves at log) (sym is) record {
-      job_is = (halves_are job short m.job_is).0;
-      chain = m.chain;
-      deep = λ e. (let s = ap (λ (x : Leaf). x.job.length) (default leaves at d e i) in omega arith);
-      jobs = m.jobs;
-      shown = m.shown;
-    }
-
 pub grown_shown : (c : Choices) (log log' more : List Record) (k : ℕ) (job : Job) → log' ≡ log ++ more → RefutesJob c log k job → RefutesJob c log' k job
 grown_shown c log log' more k job is (r, at, box, holds) = (r, subst (λ l. slice_get l k ≡ Some r) (sym is) (get_before log more k r at), box, holds)
 

@@ -1,29 +1,25 @@
 -- The records on which a record rests, and their copies.
-use Rattle.std.proofs.Common.{◌≡◌, ℕ, zero, suc, ◌+◌, ◌-◌, ◌<◌, ◌≤◌, List, [], ◌∷◌, ◌++◌, length, take, get_or, Option, Some, None, true, false, ◌⊎◌, refl, sym, ap, ◌∙◌, subst, inl, inr, arith, append_assoc, append-nil, length-append}
-use Rattle.std.specs.Prelude.{◌↔◌, IsPermutation, slice_get, slice_index, nat_eq}
-use Rattle.std.specs.List.{All, Contains, list_any}
-use Rattle.std.proofs.lemmas.Bool.{cases_lt, cases_eq, eqb-true}
+use Rattle.std.proofs.Common.{◌≡◌, ℕ, zero, suc, ◌+◌, ◌-◌, ◌<◌, ◌≤◌, List, [], ◌∷◌, ◌++◌, length, take, get_or, Option, Some, refl, sym, ap, ◌∙◌, subst, inl, inr, arith, append_assoc, append-nil, length-append}
+use Rattle.std.specs.Prelude.{◌↔◌, IsPermutation, slice_get, slice_index}
+use Rattle.std.specs.List.{All, Contains}
+use Rattle.std.proofs.lemmas.Bool.{cases_lt}
 use Rattle.std.proofs.lemmas.List.{take_more, get_or_append_left, length-take}
-use Rattle.std.proofs.lemmas.List.Elements.{All-append, All-contains, All-contains_itself, All-get_or, All-nil, All-cons, All-push, All-weaker, Contains-append_left, Contains-append_right, Contains-get_or, Contains-push, Contains-push_cases}
+use Rattle.std.proofs.lemmas.List.Elements.{All-append, All-contains, All-contains_itself, All-get_or, All-nil, All-cons, All-push, All-weaker, Contains-append_left, Contains-get_or, Contains-push, Contains-push_cases}
 use Rattle.std.proofs.lemmas.List.Sorted.{Contains-permutation, IsPermutation-sym}
-use Rattle.std.proofs.lemmas.Map.Views.{Contains-from_any}
-use Rattle.std.proofs.lemmas.Option.{none-some, same_Some, slice_get-get_or, slice_get_within}
+use Rattle.std.proofs.lemmas.Option.{none-some, same_Some, slice_get-get_or}
 use Rattle.plan_rule.specs.Boxes.{Covers, exact, with_literal}
 use Rattle.plan_rule.specs.Choices.{Choices}
 use Rattle.plan_rule.specs.Yards.{choices}
 use Rattle.plan_rule.specs.declared.literal.Literal.{Literal}
 use Rattle.refutation_log.specs.declared.record.Record.{Record}
 use Rattle.refutation_log.specs.declared.record.Record.TheVariants.{Branch, Fit, Energy}
-use Rattle.refutation_log.specs.Logs.{AreSteps, CiteEarlier, cites_of}
-use Rattle.refutation_log.specs.Steps.{IsBranch, IsCited, IsCovered, IsStep, IsStepAt, result_of}
+use Rattle.refutation_log.specs.Logs.{CiteEarlier, cites_of}
+use Rattle.refutation_log.specs.Steps.{IsCited, IsCovered, IsStep, result_of}
 use Rattle.refutation_log.proofs.AppendedLaws.{get_before}
 use Rattle.branch_kernel.specs.Clean.{Leads}
 use Rattle.branch_kernel.proofs.GrowthLaws.{slice_get-last}
 use Rattle.branch_kernel.proofs.OrderLaws.{All-permuted}
 use Rattle.log_parts.specs.Picked.{AreCopied, AreFoundIn, IsAdded, IsClosedUnder, IsDerivation, IsOneAdded, IsRenumbered, Rises}
-
-pub any_found : (xs : List ℕ) (q : ℕ) → list_any (λ y. nat_eq y q) xs ≡ true → Contains xs q
-any_found xs q e = Contains-from_any {eq = λ q y. nat_eq y q} (λ x y e. sym (eqb-true y x e)) q xs e
 
 pub default : {X : Type 0} (xs : List X) (i : ℕ) (d e : X) → i < length xs → get_or xs i d ≡ get_or xs i e
 default [] i d e l = absurd (omega arith)
@@ -262,10 +258,6 @@ branch_copied picked numbers places part next entry b lo hi side side' cites is 
     λ k c. let (j, at, within, at_k) = found.each k (subst (λ l. Contains l k) (sym same) c) in (j, (both j).1 at, within, at_k),
   ),
 )
-
-pub same_copied : (picked : List ℕ) (part next : List Record) (entry r : Record) → next ≡ part ++ r ∷ [] → IsRenumbered picked (length part) entry r
-    → (r : Record) × (next ≡ part ++ r ∷ []) × IsRenumbered picked (length part) entry r
-same_copied picked part next entry r is copy = (r, is, copy)
 
 -- a record that is picked, and what it cites
 pub picked_cites : (log : List Record) (last : ℕ) (picked : List ℕ) (i : ℕ) (e : Record) → IsClosedUnder log last picked → i < length picked → slice_get log (slice_index picked i) ≡ Some e → All (Contains picked) (cites_of e)

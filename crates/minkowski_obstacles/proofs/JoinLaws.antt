@@ -4,7 +4,7 @@ use Rattle.std.specs.List.{All, Any, Contains}
 use Rattle.std.specs.List.Sorted.{IsSortedBy, IsPermutation}
 use Rattle.std.proofs.lemmas.Bool.{cases_lt}
 use Rattle.std.proofs.lemmas.List.{length_push, take_more, get_or_default}
-use Rattle.std.proofs.lemmas.List.Elements.{All-nil, All-push, All-weaker, All-contains, All-contains_itself, Contains-append_left, Contains-push}
+use Rattle.std.proofs.lemmas.List.Elements.{All-push, All-weaker, All-contains, All-contains_itself, Contains-append_left, Contains-push}
 use Rattle.std.proofs.lemmas.List.Quantifiers.{Any-push, all_pairs_push}
 use Rattle.std.proofs.lemmas.List.Sorted.{sorted_far, All-permutation, Contains-permutation, length_permutation, IsPermutation-append_right, IsPermutation-append_comm, IsPermutation-to_front}
 use Rattle.shape_exact.specs.declared.point.Point.{Point}
@@ -13,7 +13,7 @@ use Rattle.shape_exact.proofs.Plane.{side, rim, Every, Some_of, mark_of}
 use Rattle.shape_exact.proofs.LineLaws.{every_then}
 use Rattle.shape_exact.proofs.MeetLaws.{Convex}
 use Rattle.shape_exact.proofs.ThickLaws.{ends}
-use Rattle.shape_exact.proofs.SumLaws.{Side as Wall, value as height, Of_fixed, Of_moving, Is_sum, pick, map_every, fixed_side as fixed_wall, moving_side as moving_wall, fixed_value, parallel_at}
+use Rattle.shape_exact.proofs.SumLaws.{Of_fixed, Of_moving, Is_sum, pick, map_every, fixed_value, parallel_at}
 use Rattle.shape_exact.proofs.BridgeLaws.{every_from_All, some_from_Any}
 use Rattle.minkowski_obstacles.specs.declared.side.Side.{Side}
 use Rattle.minkowski_obstacles.specs.Sums.{wall, value, OneWay, AreJoined}
@@ -105,18 +105,6 @@ pub record Merging (xs ys : List Side) (i j : ℕ) (ks : List Side) : Type 0 whe
   pub after_second : (k : ℕ) (d : Side) → j ≤ k → k < length ys → All (λ s. comes_before (get_or ys k d).along s.along ≡ false) ks
   pub directed : All HasDirection ks
 
-pub merging_none : (xs ys : List Side) → Merging xs ys 0 0 []
-merging_none xs ys = record {
-  first = omega arith;
-  second = omega arith;
-  kept = record {
-    joined = record { among = All-nil (Contains (take 0 xs ++ take 0 ys)); each = λ k d l. absurd (omega arith) };
-    ascending = λ i j d l m. absurd (omega arith);
-    count = omega arith;
-  };
-  after_first = λ k d l m. All-nil (λ s. comes_before (get_or xs k d).along s.along ≡ false);
-  after_second = λ k d l m. All-nil (λ s. comes_before (get_or ys k d).along s.along ≡ false);
-  directed = All-nil HasDirection;
 }
 
 pub merging_turned : (xs ys : List Side) (i j : ℕ) (ks : List Side) → Merging xs ys i j ks → Merging ys xs j i ks

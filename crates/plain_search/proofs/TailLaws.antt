@@ -1,5 +1,5 @@
 -- The least costs of the last blocks, added up block by block.
-use Rattle.std.proofs.Common.{◌≡◌, ℕ, suc, ◌+◌, ◌-◌, ◌*◌, ◌<◌, ◌≤◌, List, [], ◌∷◌, ◌++◌, length, None, sym, ap, ◌∙◌, subst, arith, length-append, inl, inr}
+use Rattle.std.proofs.Common.{◌≡◌, ℕ, suc, ◌+◌, ◌-◌, ◌*◌, ◌<◌, ◌≤◌, List, [], ◌∷◌, ◌++◌, length, sym, ap, ◌∙◌, subst, arith, length-append, inl, inr}
 use Rattle.std.specs.Prelude.{slice_index}
 use Rattle.std.proofs.lemmas.Bool.{cases_lt}
 use Rattle.std.proofs.lemmas.List.{get_or_append_left, get_or_push}
@@ -7,10 +7,10 @@ use Rattle.shape_exact.specs.Yards.{PlainYard}
 use Rattle.code_table.specs.Placements.{own_cost, placements}
 use Rattle.code_table.specs.Costs.{IsAtMostEachCost}
 use Rattle.plan_rule.specs.Choices.{Choices, blocks, count}
-use Rattle.plan_rule.specs.Plans.{code_of, IsBest}
+use Rattle.plan_rule.specs.Plans.{code_of}
 use Rattle.plan_rule.specs.Yards.{choices}
 use Rattle.plan_rule.proofs.CountLaws.{count-length, block_exists, code_exists}
-use Rattle.plain_search.specs.Fronts.{cost_below, IsFloor, AreTails, IsBare}
+use Rattle.plain_search.specs.Fronts.{IsFloor, AreTails, IsBare}
 
 -- the first numbers of the tails
 pub record AreFirst (c : Choices) (list : List ℕ) (k : ℕ) : Type 0 where
@@ -23,17 +23,6 @@ pub record AreFirst (c : Choices) (list : List ℕ) (k : ℕ) : Type 0 where
 abbrev pub IsLow : Choices → ℕ → ℕ → Type 0
 IsLow c b least = (code : ℕ) → code < count c b → least ≤ c.cost b code
 
-last_floor : (c : Choices) (n : ℕ) → n ≡ blocks c → IsFloor c n 0
-last_floor c n e plan p = subst (λ k. cost_below c k plan + 0 ≤ cost_below c (blocks c) plan) (sym e) (omega arith)
-
-pub first_none : (c : Choices) → AreFirst c (0 ∷ []) 0
-first_none c = record {
-  long = omega arith;
-  some = omega arith;
-  small = λ i l. let e : i ≡ 0 = omega arith in subst (λ i. slice_index (0 ∷ []) i ≤ 400000 * i) (sym e) (omega arith);
-  floors = λ i l.
-      let e : i ≡ 0 = omega arith in
-      subst (λ i. IsFloor c (blocks c - i) (slice_index (0 ∷ []) i)) (sym e) (last_floor c (blocks c - 0) (omega arith));
 }
 
 -- one block more
@@ -83,10 +72,6 @@ first_all c list k h e = record {
       let d : blocks c - (blocks c - b) ≡ b = omega arith in
       subst (λ n. IsFloor c n (slice_index list (blocks c - b))) d (h.floors (blocks c - b) (omega arith));
 }
-
--- a block without a code leaves no plan
-pub bare_none : (c : Choices) → IsBare c → IsBest c None
-bare_none c (b, l, none) q f = let m = f.is_plan.in_range b l in absurd (omega arith)
 
 -- the number that was put last
 pub first_sum : (c : Choices) (list next : List ℕ) (k sum : ℕ) → AreFirst c list k → next ≡ list ++ sum ∷ [] → sum ≡ slice_index next (k + 1)

@@ -3,25 +3,9 @@
 mod pieces;
 
 use crate::best_plan;
-use code_table::{Codes, placement_count};
-use shape_exact::{NoMemory, Yard};
+use sample_yards::codes_in;
 use std::alloc::Global;
 use std::test::Fail;
-use yard_file::read_yard;
-
-/// The codes of a yard with plates and blocks that have few placements; None for another yard.
-fn codes_of(alloc: Global, yard: &Yard) -> Result<Option<Codes>, NoMemory> {
-    if yard.plates().is_empty() || yard.blocks().is_empty() {
-        return Ok(None);
-    }
-    for block in 0..yard.blocks().len() {
-        if placement_count(yard, block as u8) > 1_048_576 {
-            return Ok(None);
-        }
-    }
-    let codes = Codes::new(alloc, yard)?;
-    Ok(Some(codes))
-}
 
 /// The codes of the best plan of the yard with these days, plates and blocks; none where no plan is feasible.
 fn best_codes(
@@ -30,11 +14,7 @@ fn best_codes(
     plates: &str,
     blocks: &str,
 ) -> Result<Option<Vec<u32>>, Fail> {
-    let text = format!(in alloc; "version=1\ndays={days}\nplate=[{plates}]\nblock=[{blocks}]\n")?;
-    let yard = read_yard(alloc, text.as_bytes())?;
-    let Some(codes) = codes_of(alloc, &yard)? else {
-        return Ok(None);
-    };
+    let codes = codes_in(alloc, days, plates, blocks)?;
     match best_plan(alloc, &codes)? {
         Some(plan) => Ok(Some(plan.codes().to_vec(alloc)?)),
         None => Ok(Some(Vec::new(alloc))),

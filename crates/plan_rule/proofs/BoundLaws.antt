@@ -78,10 +78,6 @@ base-at_most c box q r p h is = bound-at_most (MayTake c box) c.cost (blocks c) 
 pub fit-at_most : (c : Choices) (box : List Literal) (q : List ℕ) (r : Option ℕ) → IsBox c box → IsFeasible c q → Holds box q → IsFit c box r → IsAtMost r (total c q)
 fit-at_most c box q r w p h is = bound-at_most (MayFit c box) c.cost (blocks c) r (code_of q) is (may_fit c box q w p h)
 
--- no plan is lexicographically before itself
-pub IsLexLess-self : (p q : List ℕ) → ((b : ℕ) → code_of p b ≡ code_of q b) → IsLexLess p q → ⊥
-IsLexLess-self p q e h = let f = e h.place in let l = h.less in absurd (omega arith)
-
 -- of two lists at most one is lexicographically less than the other
 pub IsLexLess-asym : (p q : List ℕ) → IsLexLess p q → IsLexLess q p → ⊥
 IsLexLess-asym p q h k = elim (cases_order h.place k.place) [

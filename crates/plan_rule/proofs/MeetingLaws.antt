@@ -1,19 +1,16 @@
 -- To meet a piece is a meeting of the placement with it.
-use Rattle.std.proofs.Common.{◌≡◌, ℕ, ◌<◌, ◌≤◌, Bool, true, false, List, length, get_or, Some, refl, sym, ap, ◌∙◌, subst, arith, ◌+◌, inl, inr}
-use Rattle.std.specs.Prelude.{◌↔◌, IsTrue, not, slice_get}
+use Rattle.std.proofs.Common.{◌≡◌, ℕ, ◌<◌, ◌≤◌, List, length, get_or, Some, sym, ap, ◌∙◌, subst, arith, ◌+◌, inl, inr}
+use Rattle.std.specs.Prelude.{slice_get}
 use Rattle.std.proofs.lemmas.Option.{same_Some, slice_get_within, slice_get-get_or, get_or_from_slice_get}
-use Rattle.std.proofs.lemmas.Bool.{false≢true, cases_lt}
+use Rattle.std.proofs.lemmas.Bool.{cases_lt}
 use Rattle.std.proofs.lemmas.List.Elements.{All-contains}
-use Rattle.shape_exact.specs.Yards.{PlainYard, IsYard, IsPiece, IsPlate, piece_at}
+use Rattle.shape_exact.specs.Yards.{PlainYard, IsYard, IsPiece}
 use Rattle.shape_exact.proofs.YardLaws as yards
-use Rattle.shape_exact.specs.Shapes.{AreApart, turned}
 use Rattle.shape_exact.specs.declared.block.Block.{Block}
 use Rattle.shape_exact.specs.declared.fixed.Fixed.{Fixed}
-use Rattle.shape_exact.specs.declared.plate.Plate.{Plate}
-use Rattle.shape_exact.specs.declared.point.Point.{Point}
 use Rattle.code_table.specs.declared.placement.Placement.{Placement}
 use Rattle.code_table.specs.Placements.{placements}
-use Rattle.plan_rule.specs.Clashes.{place_of, MayMeetPiece, MeetPiece, MeetsPiece}
+use Rattle.plan_rule.specs.Clashes.{MeetPiece, MeetsPiece}
 use Rattle.plan_rule.specs.Choices.{Choices, MeetsSome, blocks}
 use Rattle.plan_rule.specs.Pieces.{IsFirstMet, IsFirstMeeting}
 use Rattle.plan_rule.specs.Plans.{code_of, MeetsNone}
@@ -27,28 +24,6 @@ piece_near yard f is p = yards.piece_near yard.days yard.plates f is.plates p
 -- a piece of a yard stands inside its plate
 pub piece_in : (yard : PlainYard) (i : ℕ) (f : Fixed) → IsYard yard → slice_get yard.fixed i ≡ Some f → IsPiece yard.days yard.plates f
 piece_in yard i f is e = All-contains (IsPiece yard.days yard.plates) yard.fixed f is.fixed (i, slice_get_within yard.fixed i f e, get_or_from_slice_get yard.fixed i f f e)
-
--- a placement that is on another plate, or shares no day with the piece
-pub far_off : (block : Block) (p : Placement) (f : Fixed) → (MayMeetPiece p f → IsTrue false) → IsTrue false ↔ MeetPiece block p f
-far_off block p f far = (λ t. cc, λ m. far (m.plate, m.starts, m.ends))
-
--- a placement that may meet the piece, by the footprints
-pub by_footprints : (block : Block) (p : Placement) (f : Fixed) (shape : List Point) (u v : Point) (apart : Bool) → MayMeetPiece p f
-    → shape ≡ turned p.turn block.shape → u ≡ place_of p → v ≡ piece_at f
-    → (IsTrue apart ↔ AreApart shape u f.shape v) → IsTrue (not apart) ↔ MeetPiece block p f
-by_footprints block p f shape u v apart may a b c told =
-    by_shapes block p f apart may
-    (subst (λ s. IsTrue apart ↔ AreApart s (place_of p) f.shape (piece_at f)) a
-    (subst (λ w. IsTrue apart ↔ AreApart shape w f.shape (piece_at f)) b
-    (subst (λ w. IsTrue apart ↔ AreApart shape u f.shape w) c told)))
-  where
-    by_shapes : (block : Block) (p : Placement) (f : Fixed) (apart : Bool) → MayMeetPiece p f
-        → (IsTrue apart ↔ AreApart (turned p.turn block.shape) (place_of p) f.shape (piece_at f)) → IsTrue (not apart) ↔ MeetPiece block p f
-    by_shapes block p f true may told = (λ t. cc, λ m. absurd (m.shapes (told.0 refl)))
-    by_shapes block p f false may told = (
-      λ t. record { plate = may.0; starts = may.1; ends = may.2; shapes = λ apart. false≢true (told.1 apart) },
-      λ m. refl,
-    )
 
 -- a meeting of a code with a piece, by its placement
 pub meets_at : (yard : PlainYard) (b code i : ℕ) (p : Placement) (f : Fixed) → b < length yard.blocks

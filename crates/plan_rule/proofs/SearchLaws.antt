@@ -1,5 +1,5 @@
 -- The steps of a search by depth: children, leaves, and a better answer.
-use Rattle.std.proofs.Common.{◌≡◌, ◌≢◌, ℕ, ◌<◌, ◌≤◌, List, [], ◌∷◌, ◌++◌, length, Option, Some, None, sym, ap, ◌∙◌, subst, inl, inr, arith, length-append}
+use Rattle.std.proofs.Common.{◌≡◌, ℕ, ◌<◌, List, [], ◌∷◌, ◌++◌, length, Option, Some, None, sym, ap, ◌∙◌, subst, inl, inr, arith, length-append}
 use Rattle.std.proofs.lemmas.Bool.{cases_lt}
 use Rattle.std.proofs.lemmas.List.{get_or_append_left, get_or_push, same_lists, get_or_default}
 use Rattle.plan_rule.specs.Choices.{Choices, blocks, count}
@@ -20,13 +20,6 @@ child front q h b l = elim (cases_lt b (length front)) [
 pub children_cover : (c : Choices) (front : List ℕ) (t : Option (List ℕ)) → length front < blocks c
     → ((code : ℕ) → code < count c (length front) → IsLeastOn c (front ++ code ∷ []) t) → IsLeastOn c front t
 children_cover c front t l each q f h = each (code_of q (length front)) (f.is_plan.in_range (length front) l) q f (child front q h)
-
--- a clash in the front leaves no feasible plan
-pub clash_covers : (c : Choices) (front : List ℕ) (t : Option (List ℕ)) (a b : ℕ) → a < length front → b < length front → length front ≤ blocks c → a ≢ b
-    → c.Clash a (code_of front a) b (code_of front b) → IsLeastOn c front t
-clash_covers c front t a b la lb l ne clash q f h =
-    absurd (f.clear a b (omega arith) (omega arith) ne
-    (subst (λ x. c.Clash a x b (code_of q b)) (h a la) (subst (λ y. c.Clash a (code_of front a) b y) (h b lb) clash)))
 
 -- a plan that extends a whole plan is that plan
 pub leaf : (c : Choices) (front q : List ℕ) → length front ≡ blocks c → IsPlan c q → Extends front q → q ≡ front

@@ -61,7 +61,7 @@ pub(crate) struct Left {
     hi: u32,
 }
 
-/// HasExact each next block that has one code left.
+/// Fixes each next block that has one code left.
 fn settle(codes: &Codes, left: Left) -> Left
     requires few { blocks (choices codes.now) ≤ 32 }
     requires codes { HasCodes (choices codes.now) }
@@ -140,15 +140,12 @@ pub fn region_of(codes: &Codes, job: Job) -> Region
 mod tests {
     use super::*;
     use crate::{Literal, PlanBox, halves};
-    use code_table::placement_count;
+    use code_table::can_be_planned;
     use shape_exact::{Block, DayList, Name, Plate, Shape, Yard};
     use std::test::Fail;
 
     /// A triangle of extent 1 by 1 on a plate of 4 by 3 in 10 days: 9 starts of two days at 12 places, 108 codes.
-    fn triangle() -> Yard
-        ensures plates { length result.plates ≡ 1 }
-        ensures blocks { length result.blocks ≡ 1 }
-    {
+    fn triangle() -> Yard {
         let mut yard = Yard::start(10);
         yard.add_plate(Plate {
             name: Name::default(),
@@ -181,7 +178,7 @@ mod tests {
     #[test]
     fn halves_of_one_block(rt: HostRuntime) -> Result<(), Fail> {
         let yard = triangle();
-        assert_eq!(rt; placement_count(&yard, 0), 108);
+        assert!(rt; can_be_planned(&yard));
         let codes = Codes::new(rt.alloc(), &yard)?;
         assert_eq!(rt; seen(region_of(&codes, Job::root())), Some((0, 0, 108)));
         let Some((lower, upper)) = halves(Job::root()) else {

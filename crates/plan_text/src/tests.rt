@@ -1,11 +1,10 @@
 //! Texts of a yard of one block, written by hand.
-ghost use Rattle.shape_exact.specs.Yards.{IsPlate, IsBlock};
 
 mod early;
 
 use crate::{PlanFault, print_plan, read_plan};
-use code_table::{Codes, placement_count};
-use shape_exact::{Block, DayList, Name, Plate, Point, Shape, Yard};
+use code_table::Codes;
+use sample_yards::ONE_BLOCK;
 use std::alloc::Global;
 use std::process::Abort;
 use std::test::Fail;
@@ -24,59 +23,14 @@ const ZEROS: &[u8] =
 
 const ONE: &[u8] = b"plan 1\nblock A plate P turn 0 x 0 y 0 start 0 end 1 tardiness 0\ntotal 1\n";
 
-/// A plate of 4 by 3, open on each of 10 days.
-fn plate(rt: &impl Abort) -> Plate
-    ensures { IsPlate 10 result }
-{
-    let name = Name::read(b"P").expect(rt, "a name");
-    let _bytes = name.bytes();
-    Plate {
-        name,
-        width: 4,
-        height: 3,
-        pitch: 1,
-        closed: DayList::empty(),
-    }
-}
-
-/// A block of 2 by 2 in one turn, two days long, due on day 1, of weight 1.
-fn block(rt: &impl Abort) -> Block
-    ensures { IsBlock result }
-{
-    let corners = [
-        Point { x: 0, y: 0 },
-        Point { x: 2, y: 0 },
-        Point { x: 2, y: 2 },
-        Point { x: 0, y: 2 },
-    ];
-    let shape = Shape::read(&corners).expect(rt, "a footprint");
-    let _corners = shape.points();
-    let name = Name::read(b"A").expect(rt, "a name");
-    let _bytes = name.bytes();
-    Block {
-        name,
-        shape,
-        turns: [true, false, false, false],
-        duration: 2,
-        release: 0,
-        due: 1,
-        weight: 1,
-        early: 0,
-    }
-}
-
-/// The codes of the yard of this plate and this block.
-fn codes_of(rt: &impl Abort, alloc: Global) -> Result<Codes, Fail> {
-    let mut yard = Yard::start(10);
-    yard.add_plate(plate(rt));
-    yard.add_block(block(rt));
-    assert!(rt; placement_count(&yard, 0) <= 1_048_576);
-    Ok(Codes::new(alloc, &yard)?)
+/// The codes of the yard of one block.
+fn codes_of(alloc: Global) -> Result<Codes, Fail> {
+    Ok(sample_yards::codes_of(alloc, ONE_BLOCK)?)
 }
 
 #[test]
 fn what_is_read_is_printed_again(rt: HostRuntime) -> Result<(), Fail> {
-    let codes = codes_of(&rt, rt.alloc())?;
+    let codes = codes_of(rt.alloc())?;
     for text in [FIRST, LATE, NONE] {
         let plan = read_plan(rt.alloc(), &codes, text)?;
         let printed = print_plan(rt.alloc(), &codes, plan.as_ref())?;
@@ -100,7 +54,7 @@ fn are_refused(
     lines: &[&[u8]],
     fault: PlanFault,
 ) -> Result<(), Fail> {
-    let codes = codes_of(rt, alloc)?;
+    let codes = codes_of(alloc)?;
     for line in lines {
         let mut text = Vec::new(alloc);
         text.extend_from_slice(b"plan 1\n")?;
@@ -113,7 +67,7 @@ fn are_refused(
 
 #[test]
 fn the_first_and_the_last_line_are_asked_for(rt: HostRuntime) -> Result<(), Fail> {
-    let codes = codes_of(&rt, rt.alloc())?;
+    let codes = codes_of(rt.alloc())?;
     let rows: [(&[u8], PlanFault); 10] = [
         (b"", PlanFault::Line(1)),
         (b"no plan", PlanFault::Line(1)),

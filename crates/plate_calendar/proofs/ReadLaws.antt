@@ -53,10 +53,6 @@ end_at opens counts start duration c h =
     ∙ ap (λ ds. slice_get ds (duration - 1)) (sym (filter_from start 0 400 opens c.ascending))
     ∙ ap (λ b. cond b (slice_get (filter (λ d. nat_le start d) opens) (duration - 1)) None) (sym h)
 
-pub end_none : (opens : List ℕ) (start duration : ℕ) → has_day start opens ≡ false → None ≡ end_of opens start duration
-end_none opens start duration h =
-    ap (λ b. cond b (slice_get (filter (λ d. nat_le start d) opens) (duration - 1)) None) (sym h)
-
 -- the open days of a window are the difference of two counts
 pub between_at : (first last below_first below_next : ℕ) (opens : List ℕ) → first ≤ last → below_next ≡ count_below (last + 1) opens
     → below_first ≡ count_below first opens → below_next ≡ below_first + open_between opens first last

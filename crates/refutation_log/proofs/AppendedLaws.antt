@@ -1,16 +1,16 @@
 -- A log that is appended to another keeps its steps: its citations only move.
-use Rattle.std.proofs.Common.{⊎_elim, ◌≡◌, ℕ, zero, suc, ◌+◌, ◌-◌, ◌<◌, ◌≤◌, List, [], ◌∷◌, ◌++◌, length, map, take, Bool, Option, Some, None, ◌⊎◌, refl, sym, ap, ◌∙◌, subst, inl, inr, arith, length-append, append-nil}
+use Rattle.std.proofs.Common.{◌≡◌, ℕ, zero, suc, ◌+◌, ◌-◌, ◌<◌, ◌≤◌, List, [], ◌∷◌, ◌++◌, length, map, take, Option, Some, ◌⊎◌, refl, sym, ap, ◌∙◌, subst, inl, inr, arith, length-append, append-nil}
 use Rattle.std.specs.Prelude.{slice_get}
 use Rattle.std.specs.List.{All, Contains}
-use Rattle.std.proofs.lemmas.List.Elements.{All-head, All-tail, All-nil, All-cons, Contains-get_or}
+use Rattle.std.proofs.lemmas.List.Elements.{All-head, All-tail, All-nil, All-cons}
 use Rattle.std.proofs.lemmas.Bool.{cases_lt}
 use Rattle.std.proofs.lemmas.Option.{none-some, same_Some}
 use Rattle.plan_rule.specs.declared.literal.Literal.{Literal}
-use Rattle.plan_rule.specs.Choices.{Choices, blocks, count}
+use Rattle.plan_rule.specs.Choices.{Choices}
 use Rattle.plan_rule.specs.Boxes.{Covers, with_literal, exact}
 use Rattle.refutation_log.specs.declared.record.Record.{Record}
 use Rattle.refutation_log.specs.declared.record.Record.TheVariants.{Branch, Fit, Energy}
-use Rattle.refutation_log.specs.Steps.{result_of, IsCited, IsCovered, IsBranch, IsStep, IsStepAt}
+use Rattle.refutation_log.specs.Steps.{result_of, IsCited, IsStep, IsStepAt}
 use Rattle.refutation_log.specs.Logs.{raised, appended, AreSteps}
 
 -- the record with this number shows the box to be refuted
@@ -136,17 +136,6 @@ appended_steps c t log other steps more i l = by_place (cases_lt i (length log))
         let n = length-append log (map (raised (length log)) other) in let m = map_length (raised (length log)) other in
         let e : length log + (i - length log) ≡ i = omega arith in
         subst (IsStepAt c t (appended log other)) e (later_step c t log other (i - length log) (more (i - length log) (omega arith)))
-
--- what a record of the second log shows, it shows in the whole
-pub later_shows : (c : Choices) (log other : List Record) (k : ℕ) (box : List Literal) → Shows c other k box → Shows c (appended log other) (length log + k) box
-later_shows c log other k box (r, at, cover) = (
-  raised (length log) r,
-  get_after log (map (raised (length log)) other) k (raised (length log) r) (get_map (raised (length log)) other k r at),
-  subst (λ box'. Covers c box' box) (sym (same_result c (length log) r)) cover,
-)
-
-pub earlier_shows : (c : Choices) (log more : List Record) (k : ℕ) (box : List Literal) → Shows c log k box → Shows c (log ++ more) k box
-earlier_shows c log more k box (r, at, cover) = (r, get_before log more k r at, cover)
 
 -- a record pushed after a log of steps
 pub pushed_steps : (c : Choices) (t : Option (List ℕ)) (log : List Record) (r : Record) → AreSteps c t log → IsStep c t log r → AreSteps c t (log ++ r ∷ [])

@@ -1,11 +1,10 @@
 -- A list that is written with a comma before each further element.
-use Rattle.std.proofs.Common.{◌≡◌, ℕ, ◌-◌, ◌<◌, ◌≤◌, List, [], ◌∷◌, ◌++◌, All, length, get_or, take, drop, map, refl, sym, ap, ◌∙◌, append_assoc, arith}
+use Rattle.std.proofs.Common.{◌≡◌, ℕ, ◌-◌, ◌<◌, ◌≤◌, List, [], ◌∷◌, ◌++◌, length, get_or, take, drop, map, refl, sym, ap, ◌∙◌, append_assoc, arith}
 use Rattle.std.specs.Fmt.{decimal}
-use Rattle.std.specs.List.{AllByRecursion, flat_map, join_with_byte}
+use Rattle.std.specs.List.{flat_map, join_with_byte}
 use Rattle.std.proofs.lemmas.List.{append-nil, take_all}
-use Rattle.std.proofs.lemmas.List.Elements.{All-from_recursion}
 use Rattle.plan_rule.specs.declared.literal.Literal.{Literal}
-use Rattle.refutation_log.specs.Spelling.{literal_text, side_text, cites_text, IsLiteral, IsSide}
+use Rattle.refutation_log.specs.Spelling.{literal_text, side_text, cites_text}
 
 joined_text : {X : Type 0} (text : X → List ℕ) (x : X) (xs : List X) → join_with_byte 44 (map text (x ∷ xs)) ≡ text x ++ flat_map (λ y. 44 ∷ text y) xs
 joined_text text x [] = sym (append-nil (text x))
@@ -36,10 +35,3 @@ cites_cons out [] d some = absurd (omega arith)
 cites_cons out (x ∷ xs) d some =
     let all : take (length (x ∷ xs) - 1) xs ≡ xs = take_all (length (x ∷ xs) - 1) xs (omega arith) in
     rw all (append_assoc out (decimal x) (flat_map (λ y. 44 ∷ decimal y) xs) ∙ ap (λ (s : List ℕ). out ++ s) (sym (joined_text decimal x xs)))
-
-spans_by : (ls : List Literal) → AllByRecursion IsLiteral ls → AllByRecursion (λ (l : Literal). l.lo < l.hi) ls
-spans_by [] is = tt
-spans_by (l ∷ ls) is = (is.0.span, spans_by ls is.1)
-
-pub side_spans : (ls : List Literal) → IsSide ls → All (λ (l : Literal). l.lo < l.hi) ls
-side_spans ls is = All-from_recursion (λ (l : Literal). l.lo < l.hi) ls (spans_by ls is.1)

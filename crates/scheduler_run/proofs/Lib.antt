@@ -1,4 +1,3 @@
-pub mod AcceptedLaws
 pub mod AnswerLaws
 pub mod FileLaws
 pub mod LoadLaws

@@ -1,5 +1,6 @@
 //! The command `check YARD PLAN LOG`.
 ghost use Rattle.std.specs.Prelude.{◌≡◌, ◌≤◌, Ok, IfOk, IfSome, option_map};
+ghost use Rattle.code_table.specs.Sizes.{CanBePlanned};
 ghost use Rattle.yard_io.specs.Desk.{Same, HasCause};
 ghost use Rattle.plan_rule.specs.Plans.{IsBest, IsPlan};
 ghost use Rattle.plan_rule.specs.Yards.{choices};
@@ -8,7 +9,6 @@ ghost use Rattle.refutation_log.specs.Reading.{log_of};
 ghost use Rattle.scheduler_run.specs.Outcomes.{outcome_of};
 ghost use Rattle.scheduler_run.specs.YardTexts.{yard_in, IsTextOf};
 ghost use Rattle.scheduler_run.specs.CheckAnswers.{ChecksFiles, ChecksYard, ChecksPlan, ChecksLog, Judges, IsBestText, HaveBest};
-ghost use Rattle.scheduler_run.specs.Accepted.{CanBePlanned};
 
 use crate::reply::{Reply, refusal};
 use crate::yard_text::{YardText, read_yard_text, yard_of_text};

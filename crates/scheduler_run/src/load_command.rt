@@ -1,10 +1,10 @@
 //! The command `load SEED BLOCKS WORKERS`.
 ghost use Rattle.std.specs.Prelude.{◌≡◌, ◌<◌, ◌≤◌, ◌^◌, ◌++◌, Some, IfOk, IfSome, OnOk, option_map};
 ghost use Rattle.std.specs.String.{string_bytes};
+ghost use Rattle.code_table.specs.Sizes.{CanBePlanned};
 ghost use Rattle.plan_rule.specs.Plans.{IsPlan};
 ghost use Rattle.plan_rule.specs.Yards.{choices};
 ghost use Rattle.yard_generator.specs.Yards.{drawn_yard};
-ghost use Rattle.scheduler_run.specs.Accepted.{CanBePlanned};
 ghost use Rattle.scheduler_run.specs.Outcomes.{outcome_of};
 ghost use Rattle.scheduler_run.specs.LoadAnswers.{all_placements, figure_line, figures_text, summary, SumsUp, LoadsDrawn};
 
@@ -102,17 +102,6 @@ fn reply_to_yard<'a, R: Threads + Sync, G: Gate + Sync>(
     })
 }
 
-/// The yard that is drawn from the seed, with so many blocks, which can be planned.
-fn yard_to_plan(alloc: Global, seed: u32, blocks: u8) -> Result<Yard, NoMemory>
-    requires seed { seed < 2 ^ 31 }
-    requires blocks { (1 ≤ blocks) × (blocks ≤ 32) }
-    ensures yard { IfOk result (λ yard. yard ≡ drawn_yard seed blocks) }
-    ensures planned { IfOk result CanBePlanned }
-{
-    let yard = drawn_yard(alloc, seed, blocks)?;
-    Ok(yard)
-}
-
 /// The reply to a seed and a number of blocks: the summary of the yard that is drawn from them.
 pub(crate) fn reply_to_load<'a, R: Threads + Sync, G: Gate + Sync>(
     rt: &R,
@@ -127,6 +116,6 @@ pub(crate) fn reply_to_load<'a, R: Threads + Sync, G: Gate + Sync>(
     requires workers { (1 ≤ workers) × (workers ≤ 16) }
     ensures { IfOk result (λ reply. LoadsDrawn seed blocks (outcome_of reply)) }
 {
-    let yard = yard_to_plan(alloc, seed, blocks)?;
+    let yard = drawn_yard(alloc, seed, blocks)?;
     reply_to_yard(rt, alloc, gate, &yard, seed, blocks, workers)
 }

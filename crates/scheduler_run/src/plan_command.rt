@@ -1,10 +1,10 @@
 //! The command `plan YARD LOG WORKERS SPLIT`.
 ghost use Rattle.std.specs.Prelude.{◌≡◌, ◌≤◌, IfOk};
+ghost use Rattle.code_table.specs.Sizes.{CanBePlanned};
 ghost use Rattle.yard_io.specs.Desk.{Same, HasCause};
 ghost use Rattle.scheduler_run.specs.YardTexts.{yard_in};
 ghost use Rattle.scheduler_run.specs.Outcomes.{outcome_of};
 ghost use Rattle.scheduler_run.specs.PlanAnswers.{AnswersFile, AnswersYard, PlansYard};
-ghost use Rattle.scheduler_run.specs.Accepted.{CanBePlanned};
 
 use crate::reply::{Made, Reply, refusal};
 use crate::yard_text::{YardText, read_yard_text, yard_of_text};

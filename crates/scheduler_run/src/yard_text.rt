@@ -1,17 +1,14 @@
 //! The text of a yard's file.
 ghost use Rattle.std.specs.Prelude.{◌≡◌, ◌≤◌, IfOk};
+ghost use Rattle.code_table.specs.Sizes.{CanBePlanned};
 ghost use Rattle.yard_io.specs.Desk.{Same, HasCause};
 ghost use Rattle.yard_file.specs.Reads.{Gives};
-ghost use Rattle.scheduler_run.specs.Accepted.{CanBePlanned};
 ghost use Rattle.scheduler_run.specs.YardTexts.{yard_in, IsTextOf};
 
 use shape_exact::Yard;
 use std::alloc::Global;
-use yard_file::{YardFault, read_yard};
+use yard_file::{MOST_BYTES, YardFault, read_yard};
 use yard_io::{Desk, Trouble, read_bytes};
-
-/// The most bytes that a yard's file may have.
-const LONGEST: u64 = 1_048_576;
 
 /// What was read of a yard's file.
 #[derive(Drop)]
@@ -35,7 +32,7 @@ pub(crate) fn read_yard_text<D: Desk>(
     ensures writes { D.write_faults desk.old ≤ D.write_faults desk.new }
 {
     let total = desk.length(name)?;
-    if total > LONGEST {
+    if total > MOST_BYTES {
         return Ok(YardText::TooLong);
     }
     Ok(YardText::Bytes(read_bytes(alloc, desk, name, total)?))

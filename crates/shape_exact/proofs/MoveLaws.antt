@@ -9,9 +9,6 @@ use Rattle.shape_exact.proofs.LineLaws.{every_then}
 use Rattle.shape_exact.proofs.MeetLaws.{Convex, Seen}
 use Rattle.shape_exact.proofs.SumLaws.{shift, shift_edge, rim-shift, some_then, every_map}
 
-abbrev pub shift_mark : Point → Mark → Mark
-shift_mark w z = record { x = z.x +ℤ z.n *ℤ w.x; y = z.y +ℤ z.n *ℤ w.y; n = z.n }
-
 abbrev pub quarter : Point → Point
 quarter p = record { x = neg_ℤ p.y; y = p.x }
 
@@ -23,12 +20,6 @@ quarter_mark z = record { x = neg_ℤ z.y; y = z.x; n = z.n }
 
 apart_by_shift : (a b x : ℤ) → (b +ℤ x) -ℤ (a +ℤ x) ≡ b -ℤ a
 apart_by_shift a b x = omega (arith, linear)
-
-spot_by_shift : (z n a x : ℤ) → (z +ℤ n *ℤ x) -ℤ n *ℤ (a +ℤ x) ≡ z -ℤ n *ℤ a
-spot_by_shift z n a x = simp ring (omega (arith, linear))
-
-pub side_shifted : (w : Point) (e : Edge) (z : Mark) → side (shift_edge w e) (shift_mark w z) ≡ side e z
-side_shifted w e z = simp (apart_by_shift, spot_by_shift)
 
 turned_at : (ax ay bx by x y n : ℤ) → (neg_ℤ by -ℤ neg_ℤ ay) *ℤ (x -ℤ n *ℤ ax) -ℤ (bx -ℤ ax) *ℤ (neg_ℤ y -ℤ n *ℤ neg_ℤ ay) ≡ (bx -ℤ ax) *ℤ (y -ℤ n *ℤ ay) -ℤ (by -ℤ ay) *ℤ (x -ℤ n *ℤ ax)
 turned_at ax ay bx by x y n = simp ring (omega (arith, linear))
@@ -43,9 +34,6 @@ rim-quarter (p ∷ ps) = rest p p ps
     rest : (first p : Point) (qs : List Point) → links (quarter first) (quarter p) (map quarter qs) ≡ map quarter_edge (links first p qs)
     rest first p [] = refl
     rest first p (q ∷ qs) = ap (λ (es : List Edge). (record { from = quarter p; to = quarter q }) ∷ es) (rest first q qs)
-
-pub inside_shifted : (w : Point) (z : Mark) (ps : List Point) → Inside z ps → Inside (shift_mark w z) (map (shift w) ps)
-inside_shifted w z ps i = (i.0, subst (λ es. Every (λ e. pos 0 <ℤ side e (shift_mark w z)) es) (sym (rim-shift w ps)) (every_map (shift_edge w) (λ e. pos 0 <ℤ side e (shift_mark w z)) (rim ps) (every_then (λ e. pos 0 <ℤ side e z) (λ e. pos 0 <ℤ side (shift_edge w e) (shift_mark w z)) (λ e h. subst (λ (k : ℤ). pos 0 <ℤ k) (sym (side_shifted w e z)) h) (rim ps) i.1)))
 
 pub inside_quarter : (z : Mark) (ps : List Point) → Inside z ps → Inside (quarter_mark z) (map quarter ps)
 inside_quarter z ps i = (i.0, subst (λ es. Every (λ e. pos 0 <ℤ side e (quarter_mark z)) es) (sym (rim-quarter ps)) (every_map quarter_edge (λ e. pos 0 <ℤ side e (quarter_mark z)) (rim ps) (every_then (λ e. pos 0 <ℤ side e z) (λ e. pos 0 <ℤ side (quarter_edge e) (quarter_mark z)) (λ e h. subst (λ (k : ℤ). pos 0 <ℤ k) (sym (side_quarter e z)) h) (rim ps) i.1)))

@@ -52,21 +52,6 @@ times_below d c x h l =
     yes : (d x q c : ℤ) → pos 0 ≤ℤ (d *ℤ (q -ℤ x)) → d *ℤ (q -ℤ x) ≡ d *ℤ q -ℤ d *ℤ x → (d *ℤ q) ≤ℤ c → (d *ℤ x) ≤ℤ c
     yes d x q c m e l = omega (arith, linear)
 
--- with d above 0, d x is above c exactly where x is above the quotient
-pub above_quotient : (d : ℕ) (c x : ℤ) → 0 < d → c <ℤ (pos d *ℤ x) → int_div_euclid c (pos d) <ℤ x
-above_quotient d c x h l = by (lt_z (int_div_euclid c (pos d)) x) refl
-  where
-    by : (t : Bool) → lt_z (int_div_euclid c (pos d)) x ≡ t → int_div_euclid c (pos d) <ℤ x
-    by true e = omega (arith, linear)
-    by false e = let i = times_below d c x h (omega (arith, linear)) in absurd (omega (arith, linear))
-
-pub times_above : (d : ℕ) (c x : ℤ) → 0 < d → int_div_euclid c (pos d) <ℤ x → c <ℤ (pos d *ℤ x)
-times_above d c x h l = by (lt_z c (pos d *ℤ x)) refl
-  where
-    by : (t : Bool) → lt_z c (pos d *ℤ x) ≡ t → c <ℤ (pos d *ℤ x)
-    by true e = omega (arith, linear)
-    by false e = let i = below_quotient d c x h (omega (arith, linear)) in absurd (omega (arith, linear))
-
 -- the same for a divisor that is a number above 0
 pub quotient_is : (d c x : ℤ) → pos 0 <ℤ d → ((d *ℤ x) ≤ℤ c) ↔ (x ≤ℤ int_div_euclid c d)
 quotient_is (pos d) c x h = (below_quotient d c x (omega (arith, linear)), times_below d c x (omega (arith, linear)))

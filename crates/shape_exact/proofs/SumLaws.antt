@@ -81,14 +81,6 @@ rim-shift w (p ∷ ps) = rest p p ps
 abbrev pub Furthest : Edge → List Point → Point → Type 0
 Furthest e vs m = (Some_of (λ v. v ≡ m) vs) × Every (λ v. side e (mark_of v) ≤ℤ side e (mark_of m)) vs
 
-pub seen_from : (e : Edge) (vs : List Point) (m w : Point) → Every (λ v. side e (mark_of v) ≤ℤ side e (mark_of m)) vs → Some_of (λ v. pos 0 <ℤ side e (mark_of v)) (map (shift w) vs) → pos 0 <ℤ side e (mark_of (shift w m))
-seen_from e [] m w h s = absurd s
-seen_from e (v ∷ vs) m w h (inl s) = by _ _ s (shift_inside e v m w h.0)
-  where
-    by : (a b : ℤ) → pos 0 <ℤ a → a ≤ℤ b → pos 0 <ℤ b
-    by a b h k = omega (arith, linear)
-seen_from e (v ∷ vs) m w h (inr s) = seen_from e vs m w h.1 s
-
 pub seen_at : (e : Edge) (vs : List Point) (m w : Point) → Some_of (λ v. v ≡ m) vs → pos 0 <ℤ side e (mark_of (shift w m)) → Some_of (λ v. pos 0 <ℤ side e (mark_of v)) (map (shift w) vs)
 seen_at e [] m w s h = absurd s
 seen_at e (v ∷ vs) m w (inl q) h = inl (subst (λ (u : Point). pos 0 <ℤ side e (mark_of (shift w u))) (sym q) h)
@@ -137,12 +129,6 @@ pub record Is_sum (fs ms : List Point) (ss : List Side) : Type 0 where
 
 abbrev pub Sees : List Point → Edge → Type 0
 Sees vs e = Some_of (λ v. pos 0 <ℤ side e (mark_of v)) vs
-
-seen_moving : (f : Edge) (us : List Point) (u w : Point) → Every (λ v. side f (mark_of v) ≤ℤ side f (mark_of u)) us → Sees us (shift_edge w f) → pos 0 <ℤ side (shift_edge w f) (mark_of u)
-seen_moving f us u w h s = let p = pick (λ v. pos 0 <ℤ side (shift_edge w f) (mark_of v)) (λ v. side f (mark_of v) ≤ℤ side f (mark_of u)) us s h in by _ _ _ _ _ (side-shift_edge f w p.0) (side-shift_edge f w u) p.1 p.2
-  where
-    by : (a b c d k : ℤ) → c ≡ a -ℤ k → d ≡ b -ℤ k → pos 0 <ℤ c → a ≤ℤ b → pos 0 <ℤ d
-    by a b c d k e f h i = omega (arith, linear)
 
 -- ---- every side holds w: then each edge sees
 side_sees_fixed : (fs ms : List Point) (e : Edge) (ss : List Side) (w : Point) → Every (λ s. pos 0 <ℤ value s w) ss → Some_of (λ s. Of_fixed ms e s) ss → Sees (map (shift w) ms) e
@@ -209,20 +195,6 @@ sum_sees fs ms ss w u c h =
         let p = pick (λ e. Same_way e f) (λ e. Sees (map (shift w) ms) e × Some_of (λ u. u ≡ e.from) fs) (rim fs) s from in
         let j = parallel_sees p.0 f ms w p.1 i p.2.0 in
         some_then (λ v. v ≡ p.0.from) (λ v. pos 0 <ℤ side (shift_edge w f) (mark_of v)) (λ v q. subst (λ (u : Point). pos 0 <ℤ side (shift_edge w f) (mark_of u)) (sym q) j) fs p.2.1
-
-pub sees_sum : (fs ms : List Point) (ss : List Side) (w : Point) → Is_sum fs ms ss → Seen fs (map (shift w) ms) → Seen (map (shift w) ms) fs → Every (λ s. pos 0 <ℤ value s w) ss
-sees_sum fs ms ss w u a b = every_then (λ s. Some_of (λ e. Of_fixed ms e s) (rim fs) ⊎ Some_of (λ f. Of_moving fs f s) (rim ms)) (λ s. pos 0 <ℤ value s w) (λ s k. case s k) ss u.sound
-  where
-    b' : Every (λ f. Sees fs (shift_edge w f)) (rim ms)
-    b' = map_every (shift_edge w) (Sees fs) (rim ms) (subst (λ es. Every (Sees fs) es) (rim-shift w ms) b)
-
-    case : (s : Side) → Some_of (λ e. Of_fixed ms e s) (rim fs) ⊎ Some_of (λ f. Of_moving fs f s) (rim ms) → pos 0 <ℤ value s w
-    case s (inl k) =
-        let p = pick (λ e. Of_fixed ms e s) (Sees (map (shift w) ms)) (rim fs) k a in
-        subst (λ (t : Side). pos 0 <ℤ value t w) (sym p.1.2) (subst (λ (n : ℤ). pos 0 <ℤ n) (sym (fixed_value p.0 p.1.0 w)) (seen_from p.0 ms p.1.0 w p.1.1.1 p.2))
-    case s (inr k) =
-        let p = pick (λ f. Of_moving fs f s) (λ f. Sees fs (shift_edge w f)) (rim ms) k b' in
-        subst (λ (t : Side). pos 0 <ℤ value t w) (sym p.1.2) (subst (λ (n : ℤ). pos 0 <ℤ n) (sym (moving_value p.0 p.1.0 w)) (seen_moving p.0 fs p.1.0 w p.1.1.1 p.2))
 
 -- ---- a side that does not hold w: then its edge leaves every vertex of the other shape out
 out_fixed : (e : Edge) (ms : List Point) (m w : Point) → Every (λ v. side e (mark_of v) ≤ℤ side e (mark_of m)) ms → side e (mark_of (shift w m)) ≤ℤ pos 0 → Every (λ v. side e (mark_of v) ≤ℤ pos 0) (map (shift w) ms)

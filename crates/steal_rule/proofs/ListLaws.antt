@@ -69,10 +69,6 @@ pub sum_none : {A : Type 0} (f : A → ℕ) (xs : List A) → length xs ≡ 0 �
 sum_none f [] e = refl
 sum_none f (x ∷ xs) e = absurd (omega arith)
 
-pub sum_map : {A B : Type 0} (g : A → B) (h : B → ℕ) (xs : List A) → sum_by h (Rattle.std.specs.Prelude.map g xs) ≡ sum_by (λ (x : A). h (g x)) xs
-sum_map g h [] = refl
-sum_map g h (x ∷ xs) = let a = sum_by-cons h (g x) (Rattle.std.specs.Prelude.map g xs) in let b = sum_by-cons (λ (x : _). h (g x)) x xs in let c = sum_map g h xs in omega arith
-
 -- a change of one view, which owns where it did
 pub still_owner : (views : List View) (owner id : ℕ) (v w : View) → get_elem? views id ≡ some v → w.owns ≡ v.owns → HasOwner views owner → HasOwner (set views id w) owner
 still_owner views owner id v w at same (o, there', owns') = dite (ℕ_discrete owner id)

@@ -179,7 +179,3 @@ swaps slots id i me low live s h _ at _ = dite (ℕ_discrete (slice_index s.word
 -- a swap that found nothing
 pub passed_of : (i : ℕ) (m n : Mine) (found : ℕ) → found ≤ 0 → Swapped i m found n → n ≡ (passed i m.0, m.1)
 passed_of i m n found none' told = subst (λ b. SwappedIf b i found m n) (eq-eqb found 0 (omega arith)) told
-
--- a swap that found a job
-pub took_of : (i : ℕ) (m n : Mine) (found : ℕ) → 0 < found → Swapped i m found n → SwappedIf false i found m n
-took_of i m n found some' told = subst (λ b. SwappedIf b i found m n) (ne_eqb found 0 (λ z. omega arith)) told

@@ -5,4 +5,5 @@ pub mod HeldLaws
 pub mod ItemLaws
 pub mod KeyLaws
 pub mod PieceLaws
+pub mod PlannedLaws
 pub mod WordLaws

@@ -50,9 +50,13 @@ abbrev pub document_yard : Option Members → Result PlainYard YardFault
 document_yard None = Err faults.NotToml
 document_yard (Some ms) = rules ms
 
+-- the most bytes that a file may have
+abbrev pub most_bytes : ℕ
+most_bytes = 1048576
+
 -- the yard of a file, or the first rule that it breaks: TooLong comes before all others
 unfoldable pub yard_of : List ℕ → Result PlainYard YardFault
-yard_of bytes = if nat_lt 1048576 (length bytes) then Err faults.TooLong else document_yard (document bytes)
+yard_of bytes = if nat_lt most_bytes (length bytes) then Err faults.TooLong else document_yard (document bytes)
 
 -- the answer is the wanted one, unless memory ran out
 abbrev pub Gives : {X : Type 0} → Result X YardFault → Result X YardFault → Type 0

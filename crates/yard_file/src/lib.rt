@@ -28,4 +28,4 @@ mod value;
 pub use clashes::pieces_clash;
 pub use fault::{Word, YardFault};
 pub use place::{At, Key};
-pub use reader::read_yard;
+pub use reader::{MOST_BYTES, read_yard};

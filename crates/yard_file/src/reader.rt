@@ -1,6 +1,7 @@
 //! Reads the bytes of a yard file.
-ghost use Rattle.std.specs.Prelude.{◌≡◌};
+ghost use Rattle.std.specs.Prelude.{◌≡◌, IfOk};
 ghost use Rattle.toml.specs.View.{table_view};
+ghost use Rattle.code_table.specs.Sizes.{CanBePlanned};
 ghost use Rattle.yard_file.specs.Reads.{rules, sized, version_in, yard_of, Gives};
 
 use crate::arrays::{block_tables, piece_tables, plate_tables};
@@ -15,6 +16,9 @@ use crate::{At, Key, YardFault};
 use shape_exact::Yard;
 use std::alloc::Global;
 use toml::Table;
+
+/// The most bytes that a yard's file may have.
+pub const MOST_BYTES: u64 = 1_048_576;
 
 /// The version of the file, 1 to 3.
 #[tactic(auto, unfolding(crate::specs::Reads::version_in))]
@@ -55,12 +59,14 @@ fn table_yard(table: &Table) -> Result<Yard, YardFault>
     sized(yard)
 }
 
-/// The yard that the bytes spell, or the first rule that they break, in the order of `docs/FORMATS.md`.
+/// The yard that the bytes spell, which can be planned, or the first rule that they break, in the order of
+/// `docs/FORMATS.md`.
 #[tactic(auto, unfolding(crate::specs::Reads::yard_of))]
 pub fn read_yard(alloc: Global, bytes: &[u8]) -> Result<Yard, YardFault>
-    ensures { Gives result (yard_of bytes.now) }
+    ensures read { Gives result (yard_of bytes.now) }
+    ensures planned { IfOk result CanBePlanned }
 {
-    if bytes.len() > 1_048_576 {
+    if bytes.len() as u64 > MOST_BYTES {
         return Err(YardFault::TooLong);
     }
     let table = document_of(alloc, bytes)?;

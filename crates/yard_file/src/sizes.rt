@@ -3,10 +3,8 @@ ghost use Rattle.std.specs.Prelude.{◌≡◌, ◌<◌, length};
 ghost use Rattle.yard_file.specs.Sizes.{too_many, first_too_many};
 
 use crate::YardFault;
-use code_table::placement_count;
+use code_table::{MOST_PLACEMENTS, placement_count};
 use shape_exact::Yard;
-
-const MOST_PLACEMENTS: u64 = 1_048_576;
 
 /// The fault of the block, where it has too many placements.
 #[tactic(auto, unfolding(crate::specs::Sizes::too_many))]

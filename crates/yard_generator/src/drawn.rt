@@ -1,5 +1,6 @@
 //! Generated yards as values.
 ghost use Rattle.std.specs.Prelude.{◌≡◌, ◌<◌, ◌≤◌, ◌^◌, Ok, IfOk};
+ghost use Rattle.code_table.specs.Sizes.{CanBePlanned};
 ghost use Rattle.yard_file.specs.Reads.{yard_of};
 ghost use Rattle.yard_generator.specs.Texts.{yard_text};
 ghost use Rattle.yard_generator.specs.Yards.{drawn_yard};
@@ -17,6 +18,7 @@ pub fn drawn_yard(alloc: Global, seed: u32, blocks: u8) -> Result<Yard, NoMemory
     requires blocks { (1 ≤ blocks) × (blocks ≤ 32) }
     ensures yard { IfOk result (λ yard. yard ≡ drawn_yard seed blocks) }
     ensures text { yard_of (yard_text seed blocks) ≡ Ok (drawn_yard seed blocks) }
+    ensures planned { IfOk result CanBePlanned }
 {
     let text = generate(alloc, seed, blocks)?;
     match read_yard(alloc, text.as_slice()) {

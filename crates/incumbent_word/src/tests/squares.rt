@@ -3,32 +3,19 @@ ghost use Rattle.std.specs.Prelude.{◌≡◌, length};
 ghost use Rattle.plan_rule.specs.Plans.{IsFeasible};
 ghost use Rattle.plan_rule.specs.Yards.{choices};
 
-use code_table::{Codes, placement_count};
+use code_table::Codes;
 use plan_rule::{Plan, first_clash, first_met};
+use sample_yards::TWO_SQUARES;
 use std::alloc::Global;
 use std::process::Abort;
-use yard_file::read_yard;
-
-const TWO_SQUARES: &str = "version = 1
-days = 10
-plate = [{ name = 'P', width = 4, height = 3 }]
-block = [
-    { name = 'A', weight = 5, shape = [[0,0],[3,0],[3,3],[0,3]], duration = 2, due = 1 },
-    { name = 'B', weight = 5, shape = [[0,0],[3,0],[3,3],[0,3]], duration = 2, due = 1 },
-]
-";
 
 /// The codes of the yard.
 pub(crate) fn codes_of(rt: &impl Abort, alloc: Global) -> Codes
     ensures { length result.blocks ≡ 2 }
 {
-    let yard = read_yard(alloc, TWO_SQUARES.as_bytes()).expect(rt, "a yard");
-    assert!(rt; !yard.plates().is_empty());
-    assert!(rt; yard.blocks().len() == 2);
-    for block in 0..2 {
-        assert!(rt; placement_count(&yard, block) <= 1_048_576);
-    }
-    Codes::new(alloc, &yard).expect(rt, "memory for codes")
+    let codes = sample_yards::codes_of(alloc, TWO_SQUARES).expect(rt, "codes");
+    assert!(rt; codes.yard().blocks().len() == 2);
+    codes
 }
 
 /// The plan of these codes, which is feasible.

@@ -7,8 +7,8 @@ ghost use Rattle.log_checker.specs.Forms.{HasForm};
 use super::branch_fault;
 use crate::form::has_form;
 use crate::known::Known;
-use crate::tests::yards::{are_few, has_block};
-use code_table::Codes;
+use crate::tests::yards::has_block;
+use code_table::{Codes, can_be_planned};
 use refutation_log::{Record, read_log};
 use shape_exact::{Block, DayList, Name, NoMemory, Plate, Shape, Yard};
 use std::alloc::Global;
@@ -123,7 +123,7 @@ fn left(
 #[test]
 fn a_branch_leaves_its_first_uncovered_code(rt: HostRuntime) -> Result<(), Fail> {
     let yard = triangles(&rt);
-    assert!(rt; are_few(&yard));
+    assert!(rt; can_be_planned(&yard));
     let codes = Codes::new(rt.alloc(), &yard)?;
     assert_eq!(rt; (codes.count(0), codes.count(1)), (6, 6));
     let log = read_log(rt.alloc(), LOG)?;

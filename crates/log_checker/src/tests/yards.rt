@@ -2,9 +2,8 @@
 ghost use Rattle.std.specs.Prelude.{◌≡◌, ◌+◌, ◌≤◌, ◌<◌, ℕ, IsTrue, length, true};
 ghost use Rattle.shape_exact.specs.Days.{are_days};
 ghost use Rattle.shape_exact.specs.Yards.{IsBlock, IsPlate, block_names, has_name};
-ghost use Rattle.code_table.specs.Placements.{placements};
 
-use code_table::{Codes, placement_count};
+use code_table::{Codes, can_be_planned};
 use shape_exact::{Block, DayList, Fixed, Name, NoMemory, Plate, Point, Shape, Yard};
 use std::alloc::Global;
 use std::process::Abort;
@@ -27,18 +26,6 @@ pub(crate) fn has_block(blocks: &[Block], name: &[u8]) -> bool
         }
     }
     false
-}
-
-/// Whether no block has more placements than a table of codes takes.
-pub(crate) fn are_few(yard: &Yard) -> bool
-    ensures { IsTrue result → (b : ℕ) → b < length yard.now.blocks → length (placements yard.now b) ≤ 1048576 }
-{
-    for b in 0..yard.blocks().len() {
-        if placement_count(yard, b as u8) > 1_048_576 {
-            return false;
-        }
-    }
-    true
 }
 
 /// The rectangle of this width and height.
@@ -147,6 +134,6 @@ pub(crate) fn add_piece(rt: &impl Abort, yard: &mut Yard, size: (i32, i32), days
 
 /// The codes of a yard.
 pub(crate) fn codes_of(rt: &impl Abort, alloc: Global, yard: &Yard) -> Result<Codes, NoMemory> {
-    assert!(rt; !yard.plates().is_empty() && !yard.blocks().is_empty() && are_few(yard));
+    assert!(rt; can_be_planned(yard));
     Codes::new(alloc, yard)
 }

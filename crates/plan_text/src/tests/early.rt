@@ -1,59 +1,32 @@
 //! Texts of yards with a cost for early days, written by hand.
-ghost use Rattle.std.specs.Prelude.{◌≡◌, ◌≤◌, ◌<◌, ℕ, length, IsTrue};
-ghost use Rattle.shape_exact.specs.Yards.{IsBlock};
-ghost use Rattle.code_table.specs.Placements.{placements};
 
-use super::{FIRST, block, is_refused, plate};
+use super::{FIRST, is_refused};
 use crate::{PlanFault, print_plan, read_plan};
-use code_table::{Codes, placement_count};
-use shape_exact::{Block, Name, Yard};
+use code_table::Codes;
 use std::alloc::Global;
 use std::process::Abort;
 use std::test::Fail;
 
-/// The block of the other texts by another name, due day and cost for each early day.
-fn early_block(rt: &impl Abort, name: &[u8], due: u16, early: u16) -> Block
-    requires due { due ≤ 399 }
-    requires early { early ≤ 1000 }
-    ensures limits { IsBlock result }
-    ensures name { result.name ≡ name.now }
-{
-    let mut of = block(rt);
-    of.name = Name::read(name).expect(rt, "a name");
-    of.due = due;
-    of.early = early;
-    of
-}
+/// A square of 2 by 2, due on day 5, each early day for 2.
+const ONE: &[u8] = b"version = 3
+days = 10
+plate = [{ name = 'P', width = 4, height = 3 }]
+block = [{ name = 'A', shape = [[0,0],[2,0],[2,2],[0,2]], duration = 2, due = 5, early = 2 }]
+";
 
-/// Whether no block has more placements than a table of codes takes.
-fn are_few(yard: &Yard) -> bool
-    ensures { IsTrue result → (b : ℕ) → b < length yard.now.blocks → length (placements yard.now b) ≤ 1048576 }
-{
-    for b in 0..yard.blocks().len() {
-        if placement_count(yard, b as u8) > 1_048_576 {
-            return false;
-        }
-    }
-    true
-}
+/// Two such squares, of which the second alone has a cost for early days.
+const SECOND: &[u8] = b"version = 3
+days = 10
+plate = [{ name = 'P', width = 4, height = 3 }]
+block = [
+    { name = 'A', shape = [[0,0],[2,0],[2,2],[0,2]], duration = 2, due = 4 },
+    { name = 'B', shape = [[0,0],[2,0],[2,2],[0,2]], duration = 2, due = 5, early = 2 },
+]
+";
 
-/// The codes of the yard of ten days with one block: due on day 5, each early day for 2.
-fn codes_of(rt: &impl Abort, alloc: Global) -> Result<Codes, Fail> {
-    let mut yard = Yard::start(10);
-    yard.add_plate(plate(rt));
-    yard.add_block(early_block(rt, b"A", 5, 2));
-    assert!(rt; are_few(&yard));
-    Ok(Codes::new(alloc, &yard)?)
-}
-
-/// The codes of the yard of ten days with two blocks, of which the second alone has a cost for early days.
-fn codes_of_two(rt: &impl Abort, alloc: Global) -> Result<Codes, Fail> {
-    let mut yard = Yard::start(10);
-    yard.add_plate(plate(rt));
-    yard.add_block(early_block(rt, b"A", 4, 0));
-    yard.add_block(early_block(rt, b"B", 5, 2));
-    assert!(rt; are_few(&yard));
-    Ok(Codes::new(alloc, &yard)?)
+/// The codes of the yard of the one square.
+fn codes_of(alloc: Global) -> Result<Codes, Fail> {
+    Ok(sample_yards::codes_of(alloc, ONE)?)
 }
 
 const ON_TIME: &[u8] =
@@ -86,17 +59,17 @@ fn is_printed_again(
 
 #[test]
 fn early_days_are_read_and_printed(rt: HostRuntime) -> Result<(), Fail> {
-    let codes = codes_of(&rt, rt.alloc())?;
+    let codes = codes_of(rt.alloc())?;
     for text in [ON_TIME, EARLY, LATE, b"no plan\n".as_slice()] {
         is_printed_again(&rt, rt.alloc(), &codes, text)?;
     }
-    let codes = codes_of_two(&rt, rt.alloc())?;
+    let codes = sample_yards::codes_of(rt.alloc(), SECOND)?;
     is_printed_again(&rt, rt.alloc(), &codes, TWO)
 }
 
 #[test]
 fn the_head_is_that_of_the_yard(rt: HostRuntime) -> Result<(), Fail> {
-    let codes = codes_of(&rt, rt.alloc())?;
+    let codes = codes_of(rt.alloc())?;
     let rows: [(&[u8], PlanFault); 4] = [
         (b"plan 1\n", PlanFault::Line(1)),
         (FIRST, PlanFault::Line(1)),
@@ -106,7 +79,7 @@ fn the_head_is_that_of_the_yard(rt: HostRuntime) -> Result<(), Fail> {
     for (text, fault) in rows {
         is_refused(&rt, rt.alloc(), &codes, text, fault);
     }
-    let without = super::codes_of(&rt, rt.alloc())?;
+    let without = super::codes_of(rt.alloc())?;
     is_refused(&rt, rt.alloc(), &without, ON_TIME, PlanFault::Line(1));
     Ok(())
 }
@@ -114,7 +87,7 @@ fn the_head_is_that_of_the_yard(rt: HostRuntime) -> Result<(), Fail> {
 /// Texts of a head, one block's line and a total, and their faults.
 #[test]
 fn early_days_are_asked_for_last(rt: HostRuntime) -> Result<(), Fail> {
-    let codes = codes_of(&rt, rt.alloc())?;
+    let codes = codes_of(rt.alloc())?;
     let rows: [(&[u8], PlanFault); 8] = [
         (b"start 2 end 3 tardiness 0\ntotal 4\n", PlanFault::Line(2)),
         (

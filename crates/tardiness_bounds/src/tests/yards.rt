@@ -1,11 +1,10 @@
 //! Small yards, part by part, and yards of parts drawn from a row of numbers.
-ghost use Rattle.std.specs.Prelude.{◌≡◌, ◌≤◌, ◌<◌, ℕ, IsTrue, length, true};
+ghost use Rattle.std.specs.Prelude.{◌≡◌, ◌≤◌, ◌<◌, true};
 ghost use Rattle.std.specs.List.{list_any};
 ghost use Rattle.shape_exact.specs.Days.{are_days};
 ghost use Rattle.shape_exact.specs.Yards.{block_names, has_name, plate_names};
-ghost use Rattle.code_table.specs.Placements.{placements};
 
-use code_table::{Codes, placement_count};
+use code_table::{Codes, can_be_planned};
 use shape_exact::{Block, DayList, Fixed, Name, NoMemory, Plate, Point, Shape, Yard};
 use std::alloc::Global;
 use std::process::Abort;
@@ -154,22 +153,9 @@ pub(crate) fn add_piece(
     true
 }
 
-/// Whether no block has more placements than a table of codes takes.
-fn are_few(yard: &Yard) -> bool
-    ensures { IsTrue result → (b : ℕ) → b < length yard.now.blocks → length (placements yard.now b) ≤ 1048576 }
-{
-    for b in 0..yard.blocks().len() {
-        if placement_count(yard, b as u8) > 1048576 {
-            return false;
-        }
-    }
-    true
-}
-
 /// The codes of a yard.
 pub(crate) fn codes_of(rt: &impl Abort, alloc: Global, yard: &Yard) -> Result<Codes, NoMemory> {
-    assert!(rt; !yard.plates().is_empty() && !yard.blocks().is_empty());
-    assert!(rt; are_few(yard));
+    assert!(rt; can_be_planned(yard));
     Codes::new(alloc, yard)
 }
 

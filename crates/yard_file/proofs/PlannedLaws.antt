@@ -1,5 +1,5 @@
--- A yard that the reader accepts can be planned: it has a plate and a block, and no block has too many placements.
-use Rattle.std.proofs.Common.{◌≡◌, ℕ, zero, ◌+◌, ◌<◌, ◌≤◌, Bool, true, false, cond, List, [], ◌∷◌, ◌++◌, length, Option, Some, None, Result, Ok, Err, refl, sym, ap, subst, ◌∙◌, arith, length-append}
+-- A yard that the rules of a file allow can be planned: it has a plate and a block, and no block has too many placements.
+use Rattle.std.proofs.Common.{◌≡◌, ℕ, zero, ◌+◌, ◌<◌, ◌≤◌, Bool, true, false, List, [], ◌∷◌, ◌++◌, length, Option, Some, None, Result, Ok, Err, refl, sym, ap, subst, ◌∙◌, arith, length-append}
 use Rattle.std.specs.Prelude.{nat_lt, if◌then◌else◌, IfOk}
 use Rattle.std.proofs.lemmas.Bool.{ltb-false}
 use Rattle.toml.specs.Data.{Items, no_items, item, Members}
@@ -10,6 +10,7 @@ use Rattle.shape_exact.specs.declared.fixed.Fixed.{Fixed}
 use Rattle.shape_exact.specs.Reading.{where_so}
 use Rattle.shape_exact.proofs.ReadLaws.{none_at}
 use Rattle.code_table.specs.Placements.{placements}
+use Rattle.code_table.specs.Sizes.{CanBePlanned, most_placements}
 use Rattle.yard_file.specs.Values.{◌>>=◌, value_in, number_in}
 use Rattle.yard_file.specs.Keys.{known_keys, top_keys}
 use Rattle.yard_file.specs.Arrays.{count, told, tables_of, few_plates, few_blocks, plate_tables, block_tables, piece_tables}
@@ -17,15 +18,11 @@ use Rattle.yard_file.specs.Plates.{plate_of, plates_from}
 use Rattle.yard_file.specs.Blocks.{block_of, blocks_from}
 use Rattle.yard_file.specs.Pieces.{pieces_from}
 use Rattle.yard_file.specs.Sizes.{too_many, first_too_many}
-use Rattle.yard_file.specs.Documents.{document}
-use Rattle.yard_file.specs.Reads.{version_in, unless, sized, rules, document_yard, yard_of, Gives}
+use Rattle.yard_file.specs.Reads.{version_in, unless, sized, rules}
 use Rattle.yard_file.specs.declared.place.At.TheVariants as places
 use Rattle.yard_file.specs.declared.place.Key.TheVariants as keys
 use Rattle.yard_file.specs.declared.fault.YardFault.{YardFault}
-use Rattle.yard_file.specs.declared.fault.YardFault.TheVariants.{TooLong, NoPlate, TooManyPlates, NoBlock, TooManyBlocks, TooManyPlacements}
-use Rattle.yard_generator.specs.Texts.{yard_text}
-use Rattle.yard_generator.specs.Yards.{drawn_yard}
-use Rattle.scheduler_run.specs.Accepted.{CanBePlanned}
+use Rattle.yard_file.specs.declared.fault.YardFault.TheVariants.{NoPlate, TooManyPlates, NoBlock, TooManyBlocks, TooManyPlacements}
 
 -- where two steps give a value, the first gives one, from which the second gives it
 bound : {A B : Type 0} (r : Result A YardFault) (f : A → Result B YardFault) (y : B) → (r >>= f) ≡ Ok y → (x : A) × (r ≡ Ok x) × (f x ≡ Ok y)
@@ -149,41 +146,26 @@ tables_of_yard ms yard e =
       none_many = subst (λ y. first_too_many y ≡ None) s.1 s.0;
     }
 
--- the document that the yard comes from
-read_ok : (long : Bool) (doc : Option Members) (yard : PlainYard) → cond long (Err TooLong) (document_yard doc) ≡ Ok yard
-    → (ms : Members) × (rules ms ≡ Ok yard)
-read_ok true doc yard e = cc
-read_ok false None yard e = cc
-read_ok false (Some ms) yard e = (ms, e)
-
 not_many : (b : Bool) (fault : YardFault) → where_so b fault ≡ None → b ≡ false
 not_many true fault e = cc
 not_many false fault e = refl
 
-few_placements : (yard : PlainYard) → first_too_many yard ≡ None → (b : ℕ) → b < length yard.blocks → length (placements yard b) ≤ 1048576
+few_placements : (yard : PlainYard) → first_too_many yard ≡ None → (b : ℕ) → b < length yard.blocks → length (placements yard b) ≤ most_placements
 unfolding too_many
 few_placements yard e b below =
-    ltb-false 1048576 (length (placements yard b))
+    ltb-false most_placements (length (placements yard b))
     (not_many _ (TooManyPlacements b (length (placements yard b))) (none_at (length yard.blocks) (too_many yard) e b below))
 
--- what the bytes of a file are read as can be planned
-pub can_be_planned : (bytes : List ℕ) (yard : PlainYard) → yard_of bytes ≡ Ok yard → CanBePlanned yard
-unfolding yard_of
-can_be_planned bytes yard e =
-    let s = read_ok (nat_lt 1048576 (length bytes)) (document bytes) yard e in
-    let t = tables_of_yard s.0 yard s.1 in
-    let plate : 1 ≤ count t.plates = plates_some s.0 t.plates t.plates_are in
-    let block : 1 ≤ count t.blocks = blocks_some s.0 t.blocks t.blocks_are in
+yard_planned : (ms : Members) (yard : PlainYard) → rules ms ≡ Ok yard → CanBePlanned yard
+yard_planned ms yard e =
+    let t = tables_of_yard ms yard e in
+    let plate : 1 ≤ count t.plates = plates_some ms t.plates t.plates_are in
+    let block : 1 ≤ count t.blocks = blocks_some ms t.blocks t.blocks_are in
     let plates : length {A = Plate} [] + count t.plates ≤ length yard.plates = plates_long t.days 0 [] t.plates yard.plates t.plates_give in
     let blocks : length {A = Block} [] + count t.blocks ≤ length yard.blocks = blocks_long t.version 0 [] t.blocks yard.blocks t.blocks_give in
     record { plates = omega (arith, plate, plates); blocks = omega (arith, block, blocks); few = few_placements yard t.none_many }
 
--- the same of the answer of a reader, where it is a yard
-pub reads_planned : (bytes : List ℕ) (answer : Result PlainYard YardFault) → Gives answer (yard_of bytes) → IfOk answer CanBePlanned
-reads_planned bytes (Ok yard) is = can_be_planned bytes yard is
-reads_planned bytes (Err fault) is = tt
-
--- a generated yard can be planned, since its text is read as it
-pub drawn_planned : (seed blocks : ℕ) (yard : PlainYard) → yard ≡ drawn_yard seed blocks
-    → yard_of (yard_text seed blocks) ≡ Ok (drawn_yard seed blocks) → CanBePlanned yard
-drawn_planned seed blocks yard same read = can_be_planned (yard_text seed blocks) yard (read ∙ ap Ok (sym same))
+-- where the rules give a yard it can be planned
+pub rules_planned : (ms : Members) (answer : Result PlainYard YardFault) → answer ≡ rules ms → IfOk answer CanBePlanned
+rules_planned ms (Ok yard) e = yard_planned ms yard (sym e)
+rules_planned ms (Err fault) e = tt

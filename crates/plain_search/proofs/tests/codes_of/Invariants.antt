@@ -1,7 +1,0 @@
-use Rattle.std.proofs.Common.{ℕ, ◌<◌, ◌≤◌, length}
-use Rattle.code_table.specs.Placements.{placements}
-use Rattle.plain_search.proofs.tests.codes_of.Given as goal
-
--- the blocks so far have few placements
-abbrev pub invariant-loop-block : goal.invariant-loop-block
-invariant-loop-block l = (b : ℕ) → b < l.block → length (placements l.yard b) ≤ 1048576
