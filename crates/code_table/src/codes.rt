@@ -82,6 +82,16 @@ impl Codes {
         &self.yard
     }
 
+    /// The limits of the yard. It does nothing: a caller that calls it may cite them.
+    pub fn limits(&self)
+        ensures limits { IsYard self.now }
+        ensures plates { 1 ≤ length self.now.plates }
+        ensures blocks { 1 ≤ length self.now.blocks }
+        ensures few { (b : ℕ) → length (placements self.now b) ≤ most_placements }
+    {
+        let _yard = &self.yard;
+    }
+
     /// The table of a block.
     fn table(&self, block: u8) -> &Table
         requires { block < length self.now.blocks }
@@ -190,7 +200,7 @@ impl Codes {
         ensures x { result.x ≤ 400 }
         ensures y { result.y ≤ 400 }
     {
-        let _yard = self.yard();
+        self.limits();
         stretch.nth(code)
     }
 
@@ -214,7 +224,7 @@ impl Codes {
         ensures order { AreAscending (placements self.now block) }
         ensures ends { EndsAscend (placements self.now block) }
     {
-        let _yard = self.yard();
+        self.limits();
     }
 
     /// A law: each placement of a block, by the rule, has a code.
@@ -223,7 +233,7 @@ impl Codes {
         ensures { (b : Block) (p : Placement) → slice_get self.now.blocks block ≡ Some b
             → IsPlacement self.now b p → (code : ℕ) × (slice_get (placements self.now block) code ≡ Some p) }
     {
-        let _yard = self.yard();
+        self.limits();
     }
 
     /// What a code costs: the weight for each day from the due day to its end, or the early cost for each day from its end

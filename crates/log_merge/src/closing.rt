@@ -55,7 +55,7 @@ pub fn close_log(alloc: Global, codes: &Codes, root: u64, log: &mut Log) -> Resu
     requires { CoversRoot (choices codes.now) log.old root }
     ensures { IfOk result (λ _. (t : Option (List ℕ)) → IsAnswer (choices codes.now) t → AreSteps (choices codes.now) t log.old → IsAccepted (choices codes.now) t log.new) }
 {
-    let _yard = codes.yard();
+    codes.limits();
     let records = log.records();
     if refutes_all(codes, &records[records.len() - 1]) {
         return Ok(());
@@ -108,7 +108,7 @@ pub fn merge_all(
     requires mergeable { IsMergeable (choices codes.now) root leaves.now 0 log.old }
     ensures { IfOk result (λ _. (t : Option (List ℕ)) → IsAnswer (choices codes.now) t → AreSteps (choices codes.now) t log.old → IsAccepted (choices codes.now) t log.new) }
 {
-    let _yard = codes.yard();
+    codes.limits();
     let merged = merge(alloc, codes, Job::root(), leaves, 0, log)?;
     close_log(alloc, codes, merged.record, log)
 }

@@ -24,7 +24,7 @@ pub fn keys_follow_order(codes: &Codes)
 pub fn keys_are_small(codes: &Codes)
     ensures { AreSmall (choices codes.now) }
 {
-    let _yard = codes.yard();
+    codes.limits();
 }
 
 /// The base of a box is at most the total of a feasible plan in it; where it is Never there is no such plan.
@@ -43,7 +43,7 @@ pub fn fit_is_sound(codes: &Codes, side: &PlanBox)
 pub fn energy_is_sound(codes: &Codes, side: &PlanBox, first: u16, last: u16)
     ensures { IsSound (choices codes.now) side.now (IsEnergy (choices codes.now) first last side.now) }
 {
-    let _yard = codes.yard();
+    codes.limits();
 }
 
 /// A job's region is described by one part alone: the same exact codes and the same range.
@@ -60,5 +60,5 @@ pub fn region_box_holds_region(codes: &Codes, job: Job)
 pub fn reports_give_best(codes: &Codes)
     ensures { ReportsGiveBest (choices codes.now) }
 {
-    let _yard = codes.yard();
+    codes.limits();
 }

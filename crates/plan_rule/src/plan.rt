@@ -60,5 +60,5 @@ pub fn best_exists(codes: &Codes, plan: &Plan)
     requires { IsFeasible (choices codes.now) plan.now }
     ensures { (best : List ℕ) × IsBest (choices codes.now) (Some best) }
 {
-    let _yard = codes.yard();
+    codes.limits();
 }

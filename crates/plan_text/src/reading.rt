@@ -98,6 +98,6 @@ pub fn read_plan(alloc: Global, codes: &Codes, bytes: &[u8]) -> Result<Option<Pl
     // Which fault it is.
     ensures exact { spec.Gives (λ t. t) result (spec.plan_of codes.now bytes.now) }
 {
-    let _yard = codes.yard();
+    codes.limits();
     plan_of(alloc, codes, bytes)
 }

@@ -14,5 +14,5 @@ pub fn accepted_is_best(codes: &Codes, answer: Option<&Plan>, log: &Log)
     requires { IsAccepted (choices codes.now) (option_map (λ p. p.now) answer) log.now }
     ensures { IsBest (choices codes.now) (option_map (λ p. p.now) answer.entry) }
 {
-    let _yard = codes.yard();
+    codes.limits();
 }

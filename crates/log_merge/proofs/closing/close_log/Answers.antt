@@ -14,6 +14,6 @@ new-requires-2 c =
 pub returns : goal.returns
 returns c = λ t answer steps.
     let n = blocks-length c.args.codes.now in
-    let e = count-length c.args.codes.now 0 c.yard-yard.ensures.blocks in
-    closed_accepted (choices c.args.codes.now) t c.args.log.now c.push.new.self c.args.root _ (let b = c.yard-yard.ensures.blocks in omega arith) c.requires
+    let e = count-length c.args.codes.now 0 c.limits.ensures.blocks in
+    closed_accepted (choices c.args.codes.now) t c.args.log.now c.push.new.self c.args.root _ (let b = c.limits.ensures.blocks in omega arith) c.requires
     (branch_is (choices c.args.codes.now) c.count.result c.args.root _ _ (c.count.ensures.value ∙ sym e) c.in_ok-new.ensures c.in_ok-new-2.ensures) c.in_ok-push.ensures.ok answer steps

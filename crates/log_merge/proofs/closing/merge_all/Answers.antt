@@ -10,7 +10,7 @@ pub close_log-requires : goal.close_log-requires
 close_log-requires c =
     let n = blocks-length c.args.codes.now in
     let m = subst (λ (j : Job). IsMerged (choices c.args.codes.now) j c.args.leaves.now c.args.log.now c.merge.new.log c.in_ok-merged.merged.record c.in_ok-merged.merged.next) c.root.ensures.value c.in_ok-merged.ensures.merged in
-    merged_covers (choices c.args.codes.now) c.args.log.now c.merge.new.log c.args.leaves.now c.in_ok-merged.merged.record c.in_ok-merged.merged.next (let b = c.yard-yard.ensures.blocks in omega arith) c.requires.codes c.requires.exist m
+    merged_covers (choices c.args.codes.now) c.args.log.now c.merge.new.log c.args.leaves.now c.in_ok-merged.merged.record c.in_ok-merged.merged.next (let b = c.limits.ensures.blocks in omega arith) c.requires.codes c.requires.exist m
 
 pub returns : goal.returns
 returns c =

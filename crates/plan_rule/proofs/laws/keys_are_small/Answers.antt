@@ -3,6 +3,6 @@ use Rattle.plan_rule.proofs.laws.keys_are_small.Goals as goal
 
 pub returns : goal.returns
 returns c = record {
-  total = λ p is. total-below c.args.codes.now p c.yard-yard.ensures.limits is;
-  key = λ p is. key-below c.args.codes.now p c.yard-yard.ensures.limits is;
+  total = λ p is. total-below c.args.codes.now p c.limits.ensures.limits is;
+  key = λ p is. key-below c.args.codes.now p c.limits.ensures.limits is;
 }

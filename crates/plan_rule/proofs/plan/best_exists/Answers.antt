@@ -4,4 +4,4 @@ use Rattle.plan_rule.proofs.TellLaws.{told}
 use Rattle.plan_rule.proofs.plan.best_exists.Goals as goal
 
 pub returns : goal.returns
-returns c = best_exists (choices c.args.codes.now) (told c.args.codes.now c.yard-yard.ensures.limits) c.args.plan.now c.requires
+returns c = best_exists (choices c.args.codes.now) (told c.args.codes.now c.limits.ensures.limits) c.args.plan.now c.requires

@@ -8,4 +8,4 @@ returns-clause-found c = is_found c.args.codes.now c.args.bytes.now c.plan_of.re
 
 pub returns-clause-only : goal.returns-clause-only
 returns-clause-only c = λ t is e.
-    subst (λ r. Gives (λ x. x) c.plan_of.result r) (ap (plan_of c.args.codes.now) e ∙ plan-again c.args.codes.now t c.yard-yard.ensures.limits is) c.plan_of.ensures
+    subst (λ r. Gives (λ x. x) c.plan_of.result r) (ap (plan_of c.args.codes.now) e ∙ plan-again c.args.codes.now t c.limits.ensures.limits is) c.plan_of.ensures

@@ -11,6 +11,6 @@ returns c =
     let (b, at) = some_at c.args.self.now.blocks c.args.block c.requires in
     let same = sym (placements-of c.args.self.now c.args.block b at) in
     record {
-      order = subst AreAscending same (placements_ascend c.args.self.now b c.yard-yard.ensures.limits);
-      ends = subst EndsAscend same (ends_ascend c.args.self.now b c.yard-yard.ensures.limits);
+      order = subst AreAscending same (placements_ascend c.args.self.now b c.limits.ensures.limits);
+      ends = subst EndsAscend same (ends_ascend c.args.self.now b c.limits.ensures.limits);
     }
