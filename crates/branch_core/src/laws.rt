@@ -9,5 +9,5 @@ use code_table::Codes;
 pub fn records_are_steps(codes: &Codes)
     ensures { RecordsAreSteps (choices codes.now) }
 {
-    codes.limits();
+    let _yard = codes.yard();
 }

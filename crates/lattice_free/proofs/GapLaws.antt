@@ -1,4 +1,4 @@
--- The gaps that forbidden stretches leave of a row hold exactly the columns that no stretch holds, ascending.
+-- The gaps that forbidden columns leave of a row hold exactly the columns that is not forbidden, ascending.
 use Rattle.std.proofs.Common.{◌≡◌, ℕ, zero, suc, ◌+◌, ◌-◌, ◌*◌, ◌<◌, ◌≤◌, max, List, [], ◌∷◌, ◌++◌, length, map, refl, sym, ap, ◌∙◌, subst, arith, ⊎_elim, inl, inr}
 use Rattle.std.specs.List.{range_with_len}
 use Rattle.std.specs.Prelude.{nat_lt, pos}
@@ -10,12 +10,12 @@ use Rattle.std.proofs.lemmas.Int.{ints}
 use Rattle.std.proofs.Math.Nat.{mul-le-mul_right}
 use lib.Signed.{◌<ℤ◌}
 use Rattle.shape_exact.specs.declared.point.Point.{Point}
-use Rattle.shape_exact.proofs.Plane.{Every, Some_of}
+use Rattle.shape_exact.specs.Plane.{Every, Some_of}
 use Rattle.shape_exact.proofs.LineLaws.{every_then}
 use Rattle.shape_exact.proofs.SumLaws.{every_map, some_then}
 use Rattle.shape_exact.proofs.MoveLaws.{some_map}
 use Rattle.lattice_free.specs.declared.run.Run.{Run}
-use Rattle.lattice_free.specs.declared.stretch.Stretch.{Stretch}
+use Rattle.lattice_free.specs.declared.forbidden.Forbidden.{Forbidden}
 use Rattle.lattice_free.specs.Order.{IsBefore}
 use Rattle.lattice_free.specs.Runs.{place, run_points, points_of, IsRun}
 use Rattle.lattice_free.specs.Grid.{Rises}
@@ -86,16 +86,16 @@ strip_is pitch row a b = ⊎_elim some none (cases_lt a b)
         zero_is : (a b : ℕ) → b ≤ a → 0 ≡ b - a
         zero_is a b l = omega arith
 
-gaps_more : (pitch row from columns : ℕ) (s : Stretch) (ss : List Stretch) → points_of pitch (gaps row from columns (s ∷ ss)) ≡ strip pitch row from s.from ++ points_of pitch (gaps row (max from s.to) columns ss)
+gaps_more : (pitch row from columns : ℕ) (s : Forbidden) (ss : List Forbidden) → points_of pitch (gaps row from columns (s ∷ ss)) ≡ strip pitch row from s.from ++ points_of pitch (gaps row (max from s.to) columns ss)
 gaps_more pitch row from columns s ss = flat_map-append (run_points pitch) (run_between row from s.from) (gaps row (max from s.to) columns ss) ∙ ap (λ (ps : List Point). ps ++ points_of pitch (gaps row (max from s.to) columns ss)) (strip_is pitch row from s.from)
 
--- ---- stretches in order
-abbrev pub Ascends : List Stretch → Type 0
+-- ---- forbidden columns in order
+abbrev pub Ascends : List Forbidden → Type 0
 Ascends [] = Unit {0}
 Ascends (s ∷ ss) = Every (λ t. s.from ≤ t.from) ss × Ascends ss
 
--- a column of the row from the first one on that no stretch holds
-pub record IsGap (columns from : ℕ) (ss : List Stretch) (k : ℕ) : Type 0 where
+-- a column of the row from the first one on that is not forbidden
+pub record IsGap (columns from : ℕ) (ss : List Forbidden) (k : ℕ) : Type 0 where
   pub low : from ≤ k
   pub high : k < columns
   pub free : Every (Misses k) ss
@@ -117,11 +117,11 @@ length-strip : (pitch row a b : ℕ) → length (strip pitch row a b) ≡ b - a
 unfolding strip
 length-strip pitch row a b = length-map (range_with_len a (b - a)) (place pitch row) ∙ length-range_with_len a (b - a)
 
--- each position of the gaps is of a column that no stretch holds
-abbrev pub Sound : ℕ → ℕ → ℕ → ℕ → List Stretch → Point → Type 0
+-- each position of the gaps is of a column that is not forbidden
+abbrev pub Sound : ℕ → ℕ → ℕ → ℕ → List Forbidden → Point → Type 0
 Sound pitch row from columns ss p = (k : ℕ) × IsGap columns from ss k × (p ≡ place pitch row k)
 
-pub gaps_sound : (pitch row from columns : ℕ) (ss : List Stretch) → Ascends ss → Every (FitsWithin columns) ss → Every (Sound pitch row from columns ss) (points_of pitch (gaps row from columns ss))
+pub gaps_sound : (pitch row from columns : ℕ) (ss : List Forbidden) → Ascends ss → Every (FitsWithin columns) ss → Every (Sound pitch row from columns ss) (points_of pitch (gaps row from columns ss))
 gaps_sound pitch row from columns [] u w = subst (λ ps. Every (Sound pitch row from columns []) ps) (sym (strip_is pitch row from columns))
     (every_then (λ p. (k : ℕ) × (from ≤ k) × (k < columns) × (p ≡ place pitch row k)) (Sound pitch row from columns []) (λ p h. (h.0, record { low = h.1; high = h.2; free = tt }, h.3)) (strip pitch row from columns) (strip_sound pitch row from columns))
 gaps_sound pitch row from columns (s ∷ ss) u w =
@@ -142,8 +142,8 @@ gaps_sound pitch row from columns (s ∷ ss) u w =
     later : (k : ℕ) → IsGap columns (max from s.to) ss k → IsGap columns from (s ∷ ss) k
     later k g = record { low = (let l = g.low in omega arith); high = g.high; free = ((λ m n. let l = g.low in omega arith), g.free) }
 
--- each column that no stretch holds is in the gaps
-pub gaps_complete : (pitch row from columns : ℕ) (ss : List Stretch) (k : ℕ) → IsGap columns from ss k → Some_of (λ q. q ≡ place pitch row k) (points_of pitch (gaps row from columns ss))
+-- each column that is not forbidden is in the gaps
+pub gaps_complete : (pitch row from columns : ℕ) (ss : List Forbidden) (k : ℕ) → IsGap columns from ss k → Some_of (λ q. q ≡ place pitch row k) (points_of pitch (gaps row from columns ss))
 gaps_complete pitch row from columns [] k g = subst (λ ps. Some_of (λ q. q ≡ place pitch row k) ps) (sym (strip_is pitch row from columns)) (strip_complete pitch row from columns k g.low g.high)
 gaps_complete pitch row from columns (s ∷ ss) k g =
     subst (λ ps. Some_of (λ q. q ≡ place pitch row k) ps) (sym (gaps_more pitch row from columns s ss))
@@ -157,7 +157,7 @@ gaps_complete pitch row from columns (s ∷ ss) k g =
     later o = record { low = (let l = g.low in let m = past o in omega arith); high = g.high; free = g.free.1 }
 
 -- the gaps ascend
-pub gaps_rise : (pitch row from columns : ℕ) (ss : List Stretch) → 1 ≤ pitch → Ascends ss → Every (FitsWithin columns) ss → Rises (points_of pitch (gaps row from columns ss))
+pub gaps_rise : (pitch row from columns : ℕ) (ss : List Forbidden) → 1 ≤ pitch → Ascends ss → Every (FitsWithin columns) ss → Rises (points_of pitch (gaps row from columns ss))
 gaps_rise pitch row from columns [] p u w = subst Rises (sym (strip_is pitch row from columns)) (strip_rises pitch row from columns p)
 gaps_rise pitch row from columns (s ∷ ss) p u w =
     subst Rises (sym (gaps_more pitch row from columns s ss))
@@ -169,7 +169,7 @@ gaps_rise pitch row from columns (s ∷ ss) p u w =
     (strip pitch row from s.from) (strip_sound pitch row from s.from)))
 
 -- and are no more than the columns
-pub gaps_few : (pitch row from columns : ℕ) (ss : List Stretch) → Every (FitsWithin columns) ss → length (points_of pitch (gaps row from columns ss)) ≤ columns - from
+pub gaps_few : (pitch row from columns : ℕ) (ss : List Forbidden) → Every (FitsWithin columns) ss → length (points_of pitch (gaps row from columns ss)) ≤ columns - from
 gaps_few pitch row from columns [] w = let e = ap (length {A = Point}) (strip_is pitch row from columns) ∙ length-strip pitch row from columns in omega arith
 gaps_few pitch row from columns (s ∷ ss) w =
     let e = ap (length {A = Point}) (gaps_more pitch row from columns s ss) ∙ length-append (strip pitch row from s.from) (points_of pitch (gaps row (max from s.to) columns ss)) in
@@ -183,6 +183,6 @@ run_is : (row a b : ℕ) → row ≤ 401 → b ≤ 401 → Every IsRun (run_betw
 run_is row a b r c = ⊎_elim (λ l. subst (Every IsRun) (sym (cond-true (nat_lt a b) (record { row = row; from = a; to = b } ∷ []) [] (lt-ltb a b l))) (record { some = l; columns = c; row = r }, tt)) (λ l. subst (Every IsRun) (sym (cond-false (nat_lt a b) (record { row = row; from = a; to = b } ∷ []) [] (le-ltb a b l))) tt) (cases_lt a b)
 
 -- each gap is a run
-pub gaps_run : (row from columns : ℕ) (ss : List Stretch) → row ≤ 401 → columns ≤ 401 → Every (FitsWithin columns) ss → Every IsRun (gaps row from columns ss)
+pub gaps_run : (row from columns : ℕ) (ss : List Forbidden) → row ≤ 401 → columns ≤ 401 → Every (FitsWithin columns) ss → Every IsRun (gaps row from columns ss)
 gaps_run row from columns [] r c w = run_is row from columns r c
 gaps_run row from columns (s ∷ ss) r c w = every_append IsRun (run_between row from s.from) (gaps row (max from s.to) columns ss) (run_is row from s.from r (let a = w.0.0 in let b = w.0.1 in omega arith)) (gaps_run row (max from s.to) columns ss r c w.1)

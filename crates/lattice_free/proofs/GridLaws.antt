@@ -10,13 +10,13 @@ use Rattle.std.proofs.lemmas.List.Elements.{All-contains}
 use Rattle.shape_exact.specs.declared.point.Point.{Point}
 use Rattle.shape_exact.specs.declared.plate.Plate.{Plate}
 use Rattle.shape_exact.specs.Shapes.{AreApart, reach_x, reach_y}
-use Rattle.shape_exact.proofs.Plane.{Every, Some_of}
+use Rattle.shape_exact.specs.Plane.{Every, Some_of}
 use Rattle.shape_exact.proofs.LineLaws.{every_then}
 use Rattle.shape_exact.proofs.BridgeLaws.{every_from_All}
 use Rattle.minkowski_obstacles.specs.Pairs.{Pair}
 use Rattle.minkowski_obstacles.proofs.SideLaws.{all_from_every, contains_from}
 use Rattle.lattice_free.specs.declared.run.Run.{Run}
-use Rattle.lattice_free.specs.declared.stretch.Stretch.{Stretch}
+use Rattle.lattice_free.specs.declared.forbidden.Forbidden.{Forbidden}
 use Rattle.lattice_free.specs.Order.{IsBefore}
 use Rattle.lattice_free.specs.Runs.{place, run_points, points_of, IsRun, IsPitch}
 use Rattle.lattice_free.specs.Gaps.{gaps, FitsWithin, Misses}
@@ -32,7 +32,7 @@ use Rattle.std.proofs.Math.Nat.{mul-le-mul_right}
 points-append : (pitch : ℕ) (rs ts : List Run) → points_of pitch (rs ++ ts) ≡ points_of pitch rs ++ points_of pitch ts
 points-append pitch rs ts = flat_map-append (run_points pitch) rs ts
 
-in_row : (fixed : List (Pair × Point)) (pitch row columns : ℕ) (ss : List Stretch) (p : Point) → AreForbidden fixed pitch row columns ss → Sound pitch row 0 columns ss p → IsPlaced fixed pitch columns (row + 1) p
+in_row : (fixed : List (Pair × Point)) (pitch row columns : ℕ) (ss : List Forbidden) (p : Point) → AreForbidden fixed pitch row columns ss → Sound pitch row 0 columns ss p → IsPlaced fixed pitch columns (row + 1) p
 in_row fixed pitch row columns ss p a s = (row, s.0, omega arith, s.1.high, s.2, subst (AreClear fixed) (sym s.2) (a.clear s.0 s.1.high (all_from_every (Misses s.0) ss s.1.free)))
 
 wider : (fixed : List (Pair × Point)) (pitch columns rows : ℕ) (p : Point) → IsPlaced fixed pitch columns rows p → IsPlaced fixed pitch columns (rows + 1) p
@@ -57,7 +57,7 @@ this_row row pitch h = by (row * pitch) ((row + 1) * pitch) (more row pitch h)
     by a b l = omega (arith, ints)
 
 -- one more row
-pub grid_more : (fixed : List (Pair × Point)) (pitch columns row : ℕ) (runs : List Run) (ss : List Stretch) → IsPitch pitch → columns ≤ 401 → row ≤ 401 → IsGrid fixed pitch columns row runs → AreForbidden fixed pitch row columns ss → IsNonDecreasingBy (λ s. s.from) ss → IsGrid fixed pitch columns (row + 1) (runs ++ gaps row 0 columns ss)
+pub grid_more : (fixed : List (Pair × Point)) (pitch columns row : ℕ) (runs : List Run) (ss : List Forbidden) → IsPitch pitch → columns ≤ 401 → row ≤ 401 → IsGrid fixed pitch columns row runs → AreForbidden fixed pitch row columns ss → IsNonDecreasingBy (λ s. s.from) ss → IsGrid fixed pitch columns (row + 1) (runs ++ gaps row 0 columns ss)
 grid_more fixed pitch columns row runs ss i c r g a n = record {
   each = every_append IsRun runs new g.each (gaps_run row 0 columns ss r c w);
   rises = subst Rises (sym e) (rises-append old added g.rises (gaps_rise pitch row 0 columns ss i.0 u w) (every_then (λ p. p.y <ℤ pos (row * pitch)) (λ p. Every (IsBefore p) added) (λ p h. every_then (Sound pitch row 0 columns ss) (IsBefore p) (λ q s. inl (subst (λ (t : Point). p.y <ℤ t.y) (sym s.2) h)) added f) old g.below));

@@ -7,7 +7,7 @@ use Rattle.shape_exact.specs.Shapes.{Spot, is_inside, side_of, edges, origin}
 use Rattle.shape_exact.proofs.RingLaws.{ring, linear}
 use Rattle.shape_exact.proofs.CellLaws.{list_all-agree}
 use Rattle.minkowski_obstacles.specs.Pairs.{Pair, AreApartAt, Overlap, IsRow, offset}
-use Rattle.lattice_free.specs.declared.stretch.Stretch.{Stretch}
+use Rattle.lattice_free.specs.declared.forbidden.Forbidden.{Forbidden}
 use Rattle.lattice_free.specs.Gaps.{IsBetween, Misses}
 use Rattle.lattice_free.specs.Clear.{IsClear}
 use Rattle.lattice_free.specs.Runs.{place}
@@ -90,20 +90,20 @@ clear_row pair at p low high n e r b = clear_from pair at p
     (by_lt_z (pos n) (low +ℤ at.x) (λ l. r.left (p.x -ℤ at.x) (subst (λ (x : ℤ). (x -ℤ at.x) <ℤ low) (sym e) (past_low low (pos n) at.x l)))
     (λ l. by_lt_z (high +ℤ at.x) (pos n) (λ m. r.right (p.x -ℤ at.x) (subst (λ (x : ℤ). high <ℤ (x -ℤ at.x)) (sym e) (past_high high (pos n) at.x m))) (λ m. absurd (b (l, m)))))
 
--- what a stretch of a row says of each column
-pub row_held : (pair : Pair) (at : Point) (pitch row columns : ℕ) (low high : ℤ) (r : Option Stretch) → IsRow pair (pos (row * pitch) -ℤ at.y) low high
+-- what the forbidden columns of a row say of each column
+pub row_held : (pair : Pair) (at : Point) (pitch row columns : ℕ) (low high : ℤ) (r : Option Forbidden) → IsRow pair (pos (row * pitch) -ℤ at.y) low high
     → IfSome r (λ s. (k : ℕ) → k < columns → ((s.from ≤ k) × (k < s.to)) ↔ IsBetween (low +ℤ at.x) (high +ℤ at.x) (k * pitch))
     → IfSome r (λ s. (k : ℕ) → k < columns → s.from ≤ k → k < s.to → IsClear (place pitch row k) pair at → ⊥)
 row_held pair at pitch row columns low high None i h = h
 row_held pair at pitch row columns low high (Some s) i h = λ k l a b. held_row pair at (place pitch row k) low high (k * pitch) refl i ((h k l).0 (a, b))
 
-pub row_clear : (pair : Pair) (at : Point) (pitch row columns : ℕ) (low high : ℤ) (r : Option Stretch) → IsRow pair (pos (row * pitch) -ℤ at.y) low high
+pub row_clear : (pair : Pair) (at : Point) (pitch row columns : ℕ) (low high : ℤ) (r : Option Forbidden) → IsRow pair (pos (row * pitch) -ℤ at.y) low high
     → IfSome r (λ s. (k : ℕ) → k < columns → ((s.from ≤ k) × (k < s.to)) ↔ IsBetween (low +ℤ at.x) (high +ℤ at.x) (k * pitch))
     → IfSome r (λ s. (k : ℕ) → k < columns → Misses k s → IsClear (place pitch row k) pair at)
 row_clear pair at pitch row columns low high None i h = h
 row_clear pair at pitch row columns low high (Some s) i h = λ k l m. clear_row pair at (place pitch row k) low high (k * pitch) refl i (λ b. let t = (h k l).1 b in m t.0 t.1)
 
-pub row_free : (pair : Pair) (at : Point) (pitch row columns : ℕ) (low high : ℤ) (r : Option Stretch) → IsRow pair (pos (row * pitch) -ℤ at.y) low high
+pub row_free : (pair : Pair) (at : Point) (pitch row columns : ℕ) (low high : ℤ) (r : Option Forbidden) → IsRow pair (pos (row * pitch) -ℤ at.y) low high
     → IfNone r ((k : ℕ) → k < columns → IsBetween (low +ℤ at.x) (high +ℤ at.x) (k * pitch) → ⊥)
     → IfNone r ((k : ℕ) → k < columns → IsClear (place pitch row k) pair at)
 row_free pair at pitch row columns low high None i h = λ k l. clear_row pair at (place pitch row k) low high (k * pitch) refl i (h k l)

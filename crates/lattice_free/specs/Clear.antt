@@ -4,7 +4,7 @@ use Rattle.shape_exact.specs.declared.point.Point.{Point}
 use Rattle.shape_exact.specs.declared.plate.Plate.{Plate}
 use Rattle.shape_exact.specs.Shapes.{AreApart}
 use Rattle.minkowski_obstacles.specs.Pairs.{Pair}
-use Rattle.lattice_free.specs.declared.stretch.Stretch.{Stretch}
+use Rattle.lattice_free.specs.declared.forbidden.Forbidden.{Forbidden}
 use Rattle.lattice_free.specs.Gaps.{FitsWithin, Misses}
 use Rattle.lattice_free.specs.Runs.{place, IsPitch}
 
@@ -24,8 +24,8 @@ IsClear p pair at = AreApart pair.fixed at pair.moving p
 abbrev pub AreClear : List (Pair × Point) → Point → Type 0
 AreClear fixed p = All (λ o. IsClear p o.0 o.1) fixed
 
--- the stretches hold exactly the columns of the row at which the shape is not clear
-pub record AreForbidden (fixed : List (Pair × Point)) (pitch row columns : ℕ) (ss : List Stretch) : Type 0 where
+-- the lists of forbidden columns hold exactly the columns of the row at which the shape is not clear
+pub record AreForbidden (fixed : List (Pair × Point)) (pitch row columns : ℕ) (ss : List Forbidden) : Type 0 where
   pub fits : All (FitsWithin columns) ss
   pub clear : (k : ℕ) → k < columns → All (Misses k) ss → AreClear fixed (place pitch row k)
   pub missed : (k : ℕ) → k < columns → AreClear fixed (place pitch row k) → All (Misses k) ss

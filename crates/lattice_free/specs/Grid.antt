@@ -1,7 +1,7 @@
 -- What the runs of so many rows hold.
 use Rattle.std.specs.Prelude.{◌≡◌, ℕ, ◌*◌, ◌<◌, ◌≤◌, pos, ◌<ℤ◌, List, [], ◌∷◌, length}
 use Rattle.shape_exact.specs.declared.point.Point.{Point}
-use Rattle.shape_exact.proofs.Plane.{Every, Some_of}
+use Rattle.shape_exact.specs.Plane.{Every, Some_of}
 use Rattle.minkowski_obstacles.specs.Pairs.{Pair}
 use Rattle.lattice_free.specs.declared.run.Run.{Run}
 use Rattle.lattice_free.specs.Order.{IsBefore}

@@ -2,7 +2,7 @@
 ghost use Rattle.std.specs.Prelude.{ℕ, ◌+◌, ◌<◌, ◌≤◌, ◌*◌, ◌↔◌, pos, ◌≤ℤ◌, ◌<ℤ◌, IfNone, IfSome};
 ghost use Rattle.lattice_free.specs.Gaps.{FitsWithin, IsBetween};
 
-use crate::stretch::Stretch;
+use crate::forbidden::Forbidden;
 
 /// How many multiples of the pitch, 0 among them, lie below `x`.
 pub(crate) fn multiples_below(x: u16, pitch: u16) -> u16
@@ -38,7 +38,7 @@ fn clamped(v: i32) -> u16
 }
 
 /// The columns whose x lies from `low` to `high`; None where there is none.
-pub fn columns_between(low: i32, high: i32, pitch: u16, columns: u16) -> Option<Stretch>
+pub fn columns_between(low: i32, high: i32, pitch: u16, columns: u16) -> Option<Forbidden>
     requires pitch { 1 ≤ pitch }
     requires low { low ≤ℤ pos 3000 }
     requires high { high ≤ℤ pos 3000 }
@@ -50,7 +50,7 @@ pub fn columns_between(low: i32, high: i32, pitch: u16, columns: u16) -> Option<
     let from = multiples_below(clamped(low), pitch);
     let to = multiples_below(clamped(high + 1), pitch).min(columns);
     if from < to {
-        Some(Stretch { from, to })
+        Some(Forbidden { from, to })
     } else {
         None
     }

@@ -6,19 +6,25 @@ ghost use Rattle.lattice_free.specs.Runs.{place, IsPitch};
 ghost use Rattle.lattice_free.specs.Clear.{IsAt, IsClear, AreForbidden};
 
 use crate::columns::columns_between;
-use crate::stretch::Stretch;
 use minkowski_obstacles::Obstacle;
 use shape_exact::Point;
 use std::alloc::AllocError;
 
+/// Columns `from..to` of a row, at least one, that are forbidden.
+#[derive(Clone, Copy, Default)]
+pub struct Forbidden {
+    pub from: u16,
+    pub to: u16,
+}
+
 /// The columns of a row at which the moving shape overlaps the fixed one, which stands at `at`; None where there is none.
-pub fn stretch_of(
+pub fn forbidden_of(
     obstacle: &Obstacle,
     at: Point,
     row: u16,
     pitch: u16,
     columns: u16,
-) -> Option<Stretch>
+) -> Option<Forbidden>
     requires at { IsAt at }
     requires pitch { IsPitch pitch }
     requires row { row ≤ 401 }
@@ -36,32 +42,32 @@ pub fn stretch_of(
     }
 }
 
-/// Appends the stretches of a row that the obstacles forbid.
+/// Appends the columns of a row that the obstacles forbid, obstacle by obstacle.
 fn gather(
-    stretches: &mut Vec<Stretch>,
+    forbidden: &mut Vec<Forbidden>,
     fixed: &[(Obstacle, Point)],
     row: u16,
     pitch: u16,
     columns: u16,
 ) -> Result<(), AllocError>
-    requires empty { stretches.old.items ≡ [] }
+    requires empty { forbidden.old.items ≡ [] }
     requires at { All (λ o. IsAt o.1) fixed.now }
     requires pitch { IsPitch pitch }
     requires row { row ≤ 401 }
-    ensures { OnOk result (AreForbidden fixed.now pitch row columns stretches.new.items) }
+    ensures { OnOk result (AreForbidden fixed.now pitch row columns forbidden.new.items) }
 {
     for o in fixed {
-        if let Some(s) = stretch_of(&o.0, o.1, row, pitch, columns) {
-            stretches.push(s)?;
+        if let Some(s) = forbidden_of(&o.0, o.1, row, pitch, columns) {
+            forbidden.push(s)?;
         }
     }
     Ok(())
 }
 
-/// The stretches of a row that the obstacles forbid, in the order of their first columns. What the list had before is
+/// The columns of a row that the obstacles forbid, in the order of their first columns. What the list had before is
 /// dropped.
 pub(crate) fn forbid(
-    stretches: &mut Vec<Stretch>,
+    forbidden: &mut Vec<Forbidden>,
     fixed: &[(Obstacle, Point)],
     row: u16,
     pitch: u16,
@@ -70,11 +76,11 @@ pub(crate) fn forbid(
     requires at { All (λ o. IsAt o.1) fixed.now }
     requires pitch { IsPitch pitch }
     requires row { row ≤ 401 }
-    ensures forbidden { OnOk result (AreForbidden fixed.now pitch row columns stretches.new.items) }
-    ensures ascending { OnOk result (IsNonDecreasingBy (λ s. s.from) stretches.new.items) }
+    ensures forbidden { OnOk result (AreForbidden fixed.now pitch row columns forbidden.new.items) }
+    ensures ascending { OnOk result (IsNonDecreasingBy (λ s. s.from) forbidden.new.items) }
 {
-    stretches.clear();
-    gather(stretches, fixed, row, pitch, columns)?;
-    stretches.sort_unstable_by_key(|s| s.from);
+    forbidden.clear();
+    gather(forbidden, fixed, row, pitch, columns)?;
+    forbidden.sort_unstable_by_key(|s| s.from);
     Ok(())
 }

@@ -86,10 +86,10 @@ fn runs_of(
     ensures { IfOk result (λ runs. IsGrid fixed.now pitch columns rows runs.items) }
 {
     let mut runs = Vec::new(alloc);
-    let mut stretches = Vec::new(alloc);
+    let mut forbidden = Vec::new(alloc);
     for row in 0..rows {
-        forbid(&mut stretches, fixed, row, pitch, columns)?;
-        add_gaps(&mut runs, row, columns, &stretches)?;
+        forbid(&mut forbidden, fixed, row, pitch, columns)?;
+        add_gaps(&mut runs, row, columns, &forbidden)?;
     }
     Ok(runs)
 }
@@ -97,7 +97,7 @@ fn runs_of(
 impl FreeRows {
     /// The free positions of the plate for the shape among the fixed ones: each obstacle is one of a fixed footprint
     /// against `shape`, with the fixed footprint's position. Takes memory for at most one run more than there are
-    /// obstacles in each row of the pitch. Costs a row's stretches, sorted, for each row of the pitch.
+    /// obstacles in each row of the pitch. Costs a row's forbidden columns, sorted, for each row of the pitch.
     pub fn new(
         alloc: Global,
         plate: &Plate,

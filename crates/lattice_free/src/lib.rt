@@ -1,7 +1,7 @@
 //! The free positions of a plate for a shape among fixed ones.
 //!
 //! Positions stand on the lattice of the plate's pitch: column k is x = k * pitch, row k is y = k * pitch. A run is a
-//! row's columns from one to another, all free. The runs of a row are what the forbidden stretches of its obstacles
+//! row's columns from one to another, all free. The runs of a row are what the forbidden columns of its obstacles
 //! leave: no position is tested by itself.
 #![tactic(auto)]
 
@@ -10,13 +10,11 @@ mod forbidden;
 mod free_points;
 mod free_rows;
 mod run;
-mod stretch;
 
 pub use columns::{columns_between, steps};
-pub use forbidden::stretch_of;
+pub use forbidden::{Forbidden, forbidden_of};
 pub use free_points::FreePoints;
 pub use free_rows::FreeRows;
-pub use stretch::Stretch;
 
 #[cfg(test)]
 mod tests;

@@ -5,7 +5,7 @@ ghost use Rattle.lattice_free.specs.Gaps.{gaps};
 ghost use Rattle.lattice_free.specs.Order.{is_from};
 
 use crate::columns::multiples_below;
-use crate::stretch::Stretch;
+use crate::forbidden::Forbidden;
 use shape_exact::Point;
 use std::alloc::AllocError;
 
@@ -30,17 +30,17 @@ pub(crate) fn place(pitch: u16, row: u16, column: u16) -> Point
     }
 }
 
-/// Appends the runs that the forbidden stretches, ascending by their first columns, leave of a row.
+/// Appends the runs that the forbidden columns, ascending by their first columns, leave of a row.
 pub(crate) fn add_gaps(
     runs: &mut Vec<Run>,
     row: u16,
     columns: u16,
-    stretches: &[Stretch],
+    forbidden: &[Forbidden],
 ) -> Result<(), AllocError>
-    ensures { OnOk result (runs.new.items ≡ runs.old.items ++ gaps row 0 columns stretches.now) }
+    ensures { OnOk result (runs.new.items ≡ runs.old.items ++ gaps row 0 columns forbidden.now) }
 {
     let mut from = 0;
-    for s in stretches {
+    for s in forbidden {
         if from < s.from {
             runs.push(Run {
                 row,

@@ -39,7 +39,7 @@ pub(crate) fn exact_of(codes: &Codes, side: &PlanBox) -> ArrayVec<Exact, 32>
     ensures exacts { AreExact codes.now side.now result.items }
     ensures standing { All (IsStanding codes.now) result.items }
 {
-    codes.limits();
+    let _yard = codes.yard();
     let mut list = ArrayVec::new();
     for l in side.literals() {
         if l.is_exact(l.block, l.lo) {

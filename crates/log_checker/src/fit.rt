@@ -113,7 +113,7 @@ pub(crate) fn fit_fault(
     ensures told { AreKnown codes.now known.new }
     ensures kept { ArePassed codes.now passed.new }
 {
-    codes.limits();
+    let _yard = codes.yard();
     let Some(fit) = fit(codes, known, passed, side, greatest(claim)) else {
         return None;
     };

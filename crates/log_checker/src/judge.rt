@@ -114,7 +114,7 @@ pub fn check(
     ensures best { IfOk result
         (λ v. v ≡ Accepted → IsBest (choices codes.now) (option_map (λ p. p.now) plan.entry)) }
 {
-    codes.limits();
+    let _yard = codes.yard();
     if let Some(refused) = plan_fault(codes, plan) {
         return Ok(Verdict::Refused(refused));
     }

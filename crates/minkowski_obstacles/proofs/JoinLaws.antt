@@ -9,11 +9,12 @@ use Rattle.std.proofs.lemmas.List.Quantifiers.{Any-push, all_pairs_push}
 use Rattle.std.proofs.lemmas.List.Sorted.{sorted_far, All-permutation, Contains-permutation, length_permutation, IsPermutation-append_right, IsPermutation-append_comm, IsPermutation-to_front}
 use Rattle.shape_exact.specs.declared.point.Point.{Point}
 use Rattle.shape_exact.proofs.RingLaws.{ring, linear}
-use Rattle.shape_exact.proofs.Plane.{side, rim, Every, Some_of, mark_of}
+use Rattle.shape_exact.specs.Plane.{side, rim, Every, Some_of, mark_of}
 use Rattle.shape_exact.proofs.LineLaws.{every_then}
 use Rattle.shape_exact.proofs.MeetLaws.{Convex}
 use Rattle.shape_exact.proofs.ThickLaws.{ends}
-use Rattle.shape_exact.proofs.SumLaws.{Of_fixed, Of_moving, Is_sum, pick, map_every, fixed_value, parallel_at}
+use Rattle.shape_exact.specs.Sums.{Of_fixed, Of_moving, Is_sum}
+use Rattle.shape_exact.proofs.SumLaws.{pick, map_every, fixed_value, parallel_at}
 use Rattle.shape_exact.proofs.BridgeLaws.{every_from_All, some_from_Any}
 use Rattle.minkowski_obstacles.specs.declared.side.Side.{Side}
 use Rattle.minkowski_obstacles.specs.Sums.{wall, value, OneWay, AreJoined}
@@ -104,8 +105,6 @@ pub record Merging (xs ys : List Side) (i j : ℕ) (ks : List Side) : Type 0 whe
   pub after_first : (k : ℕ) (d : Side) → i ≤ k → k < length xs → All (λ s. comes_before (get_or xs k d).along s.along ≡ false) ks
   pub after_second : (k : ℕ) (d : Side) → j ≤ k → k < length ys → All (λ s. comes_before (get_or ys k d).along s.along ≡ false) ks
   pub directed : All HasDirection ks
-
-}
 
 pub merging_turned : (xs ys : List Side) (i j : ℕ) (ks : List Side) → Merging xs ys i j ks → Merging ys xs j i ks
 merging_turned xs ys i j ks m = record {

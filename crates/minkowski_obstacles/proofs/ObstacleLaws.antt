@@ -7,11 +7,12 @@ use Rattle.std.proofs.lemmas.List.{take_more}
 use Rattle.shape_exact.specs.declared.point.Point.{Point}
 use Rattle.shape_exact.specs.Shapes.{IsShape, origin}
 use Rattle.shape_exact.proofs.RingLaws.{ring, linear, one-mul, positive_mul}
-use Rattle.shape_exact.proofs.Plane.{Edge, Mark, side, Every, mark_of, Inside}
+use Rattle.shape_exact.specs.Plane.{Edge, Mark, side, Every, mark_of, Inside}
 use Rattle.shape_exact.proofs.LineLaws.{every_then}
 use Rattle.shape_exact.proofs.LoopLaws.{separated}
 use Rattle.shape_exact.proofs.MeetLaws.{meet}
-use Rattle.shape_exact.proofs.SumLaws.{shift, sum_sees, sum_apart, every_map, value as height}
+use Rattle.shape_exact.specs.Sums.{shift}
+use Rattle.shape_exact.proofs.SumLaws.{sum_sees, sum_apart, every_map}
 use Rattle.shape_exact.proofs.MoveLaws.{convex_shifted, seen_shifted, some_map}
 use Rattle.shape_exact.proofs.WallLaws.{not_right}
 use Rattle.shape_exact.proofs.FormLaws.{not_left}
@@ -21,8 +22,8 @@ use Rattle.minkowski_obstacles.specs.declared.side.Side.{Side}
 use Rattle.minkowski_obstacles.specs.Sums.{wall, value, IsSum}
 use Rattle.minkowski_obstacles.specs.Pairs.{AreApartAt, Overlap, IsEmptyRow, IsRow, offset}
 use Rattle.minkowski_obstacles.proofs.JoinLaws.{all_hold, any_of_all}
-use Rattle.minkowski_obstacles.specs.declared.stretch.Stretch.{Stretch}
-use Rattle.minkowski_obstacles.specs.Stretches.{Holds}
+use Rattle.minkowski_obstacles.specs.declared.interval.Interval.{Interval}
+use Rattle.minkowski_obstacles.specs.Intervals.{Holds}
 use lib.IntN.{ℤ, pos, negsuc, ◌+ℤ◌, ◌-ℤ◌, ◌*ℤ◌, neg_ℤ}
 use lib.Signed.{◌<ℤ◌, ◌≤ℤ◌, lt_z}
 
@@ -155,7 +156,7 @@ split_sides (s ∷ ss) w = by (lt_z (pos 0) (value s w)) refl (split_sides ss w)
     by true e (inl a) = inl (All-cons (λ t. pos 0 <ℤ value t w) s ss (yes (value s w) e) a)
     by true e (inr a) = inr (later a)
 
--- what the stretch of a row holds
+-- what the interval of a row holds
 abbrev pub IsHeld : List Side → ℤ → ℤ → Type 0
 IsHeld ss y x = ((negsuc 1999 ≤ℤ x) × (x ≤ℤ pos 2000)) × All (λ s. pos 0 <ℤ value s (offset x y)) ss
 
@@ -192,8 +193,8 @@ before a b c h k = omega (arith, linear)
 empty : (a b x : ℤ) → b <ℤ a → a ≤ℤ x → x ≤ℤ b → ⊥
 empty a b x h i j = omega (arith, linear)
 
--- the stretch of a row has its ends
-pub row_is : (fs ms : List Point) (ss : List Side) (y : ℤ) (s : Stretch) → IsShape fs → IsShape ms → IsSum fs ms ss → ((x : ℤ) → Holds s x ↔ IsHeld ss y x) → s.low ≤ℤ s.high → IsRow (record { fixed = fs; moving = ms }) y s.low s.high
+-- the interval of a row has its ends
+pub row_is : (fs ms : List Point) (ss : List Side) (y : ℤ) (s : Interval) → IsShape fs → IsShape ms → IsSum fs ms ss → ((x : ℤ) → Holds s x ↔ IsHeld ss y x) → s.low ≤ℤ s.high → IsRow (record { fixed = fs; moving = ms }) y s.low s.high
 row_is fs ms ss y s f m u h l = record {
   some = l;
   inside = λ x a b. inside_sum fs ms ss (offset x y) f m u ((h x).0 (a, b)).1;
@@ -201,7 +202,7 @@ row_is fs ms ss y s f m u h l = record {
   right = λ x a. not_held fs ms ss x y f m u (λ k. before s.high x x a ((h x).1 k).1);
 }
 
-pub row_none : (fs ms : List Point) (ss : List Side) (y : ℤ) (s : Stretch) → IsShape fs → IsShape ms → IsSum fs ms ss → ((x : ℤ) → Holds s x ↔ IsHeld ss y x) → s.high <ℤ s.low → IsEmptyRow (record { fixed = fs; moving = ms }) y
+pub row_none : (fs ms : List Point) (ss : List Side) (y : ℤ) (s : Interval) → IsShape fs → IsShape ms → IsSum fs ms ss → ((x : ℤ) → Holds s x ↔ IsHeld ss y x) → s.high <ℤ s.low → IsEmptyRow (record { fixed = fs; moving = ms }) y
 row_none fs ms ss y s f m u h l = λ x. not_held fs ms ss x y f m u (λ k. empty s.low s.high x l ((h x).1 k).0 ((h x).1 k).1)
 
 -- ---- one more side of a row
@@ -218,7 +219,7 @@ pub all_push_back : {A : Type 0} (P : A → Type 0) (xs : List A) (y : A) → Al
 all_push_back P [] y h = (All-nil P, All-head P y [] h)
 all_push_back P (x ∷ xs) y h = let r = all_push_back P xs y (All-tail P x (xs ++ y ∷ []) h) in (All-cons P x xs (All-head P x (xs ++ y ∷ []) h) r.0, r.1)
 
-pub held_more : (ss : List Side) (i : ℕ) (d : Side) (y b : ℤ) (r t : Stretch) → i < length ss → b ≡ (get_or ss i d).along.x *ℤ (y -ℤ (get_or ss i d).at.y) +ℤ (get_or ss i d).along.y *ℤ (get_or ss i d).at.x
+pub held_more : (ss : List Side) (i : ℕ) (d : Side) (y b : ℤ) (r t : Interval) → i < length ss → b ≡ (get_or ss i d).along.x *ℤ (y -ℤ (get_or ss i d).at.y) +ℤ (get_or ss i d).along.y *ℤ (get_or ss i d).at.x
     → ((x : ℤ) → Holds r x ↔ IsHeld (take i ss) y x) → ((x : ℤ) → Holds t x ↔ (Holds r x × (((get_or ss i d).along.y *ℤ x) <ℤ b))) → (x : ℤ) → Holds t x ↔ IsHeld (take (i + 1) ss) y x
 held_more ss i d y b r t l e h k x = (λ a. there ((k x).0 a), λ a. (k x).1 (back a))
   where

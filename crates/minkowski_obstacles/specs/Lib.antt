@@ -1,5 +1,5 @@
 pub mod Sums
 pub mod Merged
 pub mod Pairs
-pub mod Stretches
+pub mod Intervals
 pub mod Obstacles

@@ -3,8 +3,7 @@ use Rattle.std.specs.Prelude.{◌≡◌, ℤ, pos, ◌+ℤ◌, ◌-ℤ◌, ◌*�
 use Rattle.std.specs.List.{Contains}
 use Rattle.shape_exact.specs.declared.point.Point.{Point}
 use Rattle.shape_exact.specs.Separation.{IsWithin}
-use Rattle.shape_exact.proofs.Plane.{Edge as Line}
-use Rattle.shape_exact.proofs.SumLaws.{Side as Wall, Is_sum}
+use Rattle.shape_exact.specs.Sums.{Is_sum}
 use Rattle.minkowski_obstacles.specs.declared.edge.Edge.{Edge}
 use Rattle.minkowski_obstacles.specs.declared.side.Side.{Side}
 

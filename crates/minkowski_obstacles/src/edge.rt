@@ -2,7 +2,7 @@
 ghost use Rattle.std.specs.Prelude.{◌≡◌, ◌<◌, ◌≤◌, ◌-ℤ◌, ◌*ℤ◌, All, length, slice_index_or, unsigned_abs};
 ghost use Rattle.shape_exact.specs.Shapes.{cross};
 ghost use Rattle.shape_exact.specs.Separation.{IsWithin};
-ghost use Rattle.shape_exact.proofs.Plane.{rim, Edge as Line};
+ghost use Rattle.shape_exact.specs.Plane.{rim, Edge as Line};
 ghost use Rattle.minkowski_obstacles.specs.Sums.{line};
 
 use shape_exact::Point;

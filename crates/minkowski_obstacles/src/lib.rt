@@ -9,10 +9,10 @@
 mod direction;
 mod edge;
 mod furthest;
+mod interval;
 mod obstacle;
 mod side;
 mod sides;
-mod stretch;
 
 pub use obstacle::Obstacle;
 

@@ -2,12 +2,12 @@
 ghost use Rattle.std.specs.Prelude.{◌≡◌, ℤ, pos, ◌+ℤ◌, ◌-ℤ◌, ◌*ℤ◌, ◌<ℤ◌, ◌≤ℤ◌, ◌≤◌, ◌↔◌, true, false, All, Any, IfNone, IfSome, negsuc, unsigned_abs};
 ghost use Rattle.shape_exact.specs.Separation.{IsWithin};
 ghost use Rattle.minkowski_obstacles.specs.Pairs.{AreApartAt, Overlap, IsEmptyRow, IsRow, offset};
-ghost use Rattle.minkowski_obstacles.specs.Stretches.{Holds};
+ghost use Rattle.minkowski_obstacles.specs.Intervals.{Holds};
 ghost use Rattle.minkowski_obstacles.specs.Sums.{IsSmall, value};
 
+use crate::interval::Interval;
 use crate::side::Side;
 use crate::sides::sides_of;
-use crate::stretch::Stretch;
 use arrayvec::ArrayVec;
 use shape_exact::{Point, Shape};
 use std::marker::Model;
@@ -67,12 +67,12 @@ fn bound(s: &Side, y: i32) -> i64
 }
 
 /// The x from -2000 to 2000 for which the offset (x, y) is strictly on the inner side of each of the sides.
-fn row_within(sides: &[Side], y: i32) -> Stretch
+fn row_within(sides: &[Side], y: i32) -> Interval
     requires { All IsSmall sides.now }
     ensures { (x : ℤ) → Holds result x
         ↔ (((negsuc 1999 ≤ℤ x) × (x ≤ℤ pos 2000)) × All (λ s. pos 0 <ℤ value s (offset x y)) sides.now) }
 {
-    let mut row = Stretch {
+    let mut row = Interval {
         low: -2000,
         high: 2000,
     };

@@ -4,8 +4,8 @@ ghost use Rattle.std.specs.List.{AllZip};
 ghost use Rattle.std.specs.List.Sorted.{IsPermutation, IsSortedBy};
 ghost use Rattle.shape_exact.specs.Separation.{IsWithin};
 ghost use Rattle.shape_exact.specs.Shapes.{IsShape};
-ghost use Rattle.shape_exact.proofs.Plane.{rim};
-ghost use Rattle.shape_exact.proofs.SumLaws.{Of_fixed, Of_moving};
+ghost use Rattle.shape_exact.specs.Plane.{rim};
+ghost use Rattle.shape_exact.specs.Sums.{Of_fixed, Of_moving};
 ghost use Rattle.minkowski_obstacles.specs.Sums.{AreJoined, IsSmall, OneWay, wall, IsSum};
 ghost use Rattle.minkowski_obstacles.specs.Merged.{comes_before, HasDirection, IsAscending, IsKept, IsNext};
 

@@ -1,5 +1,5 @@
 -- The steps of the boxes as a code is entered. No public clause speaks of this.
-use Rattle.std.specs.Prelude.{◌≡◌, ◌≢◌, ℕ, ◌<◌, List, [], ◌∷◌, ◌++◌, length, map, All}
+use Rattle.std.specs.Prelude.{◌≡◌, ◌≢◌, ℕ, ◌-◌, ◌<◌, List, [], ◌∷◌, ◌++◌, length, map, All, Option, MatchOption}
 use Rattle.nogood_store.specs.declared.nogood.Nogood.{Nogood}
 use Rattle.nogood_store.specs.declared.step.Step.{Step}
 use Rattle.nogood_store.specs.Waits.{box_of, waits}
@@ -25,6 +25,14 @@ pub record IsStep (list : List Nogood) (codes : List ℕ) (code : ℕ) (s : Step
   pub waited : waits codes (box_of list s.entry) ≡ length codes
   pub goes : waits (codes ++ code ∷ []) (box_of list s.entry) ≡ s.chain
   pub other : s.chain ≢ length codes
+
+-- the step of the last box as a code is entered; none where it goes on waiting for the block that is entered
+abbrev pub StepsLast : List Nogood → List ℕ → ℕ → Option Step → Type 0
+StepsLast list codes code step =
+    MatchOption step
+    (waits codes (box_of list (length list - 1)) ≡ length codes
+    → waits (codes ++ code ∷ []) (box_of list (length list - 1)) ≡ length codes)
+    (λ s. (s.entry ≡ length list - 1) × IsStep list codes code s)
 
 -- the steps of all boxes that move on as the code is entered, one each
 pub record AreSteps (list : List Nogood) (codes : List ℕ) (code : ℕ) (steps : List Step) : Type 0 where

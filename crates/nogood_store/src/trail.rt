@@ -1,11 +1,11 @@
 //! The open moves of a store, depth by depth.
-ghost use Rattle.std.specs.Prelude.{◌≡◌, ◌≢◌, ℕ, ◌+◌, ◌-◌, ◌<◌, ◌≤◌, List, MatchOption, [], ◌∷◌, ◌++◌, length, slice_index};
+ghost use Rattle.std.specs.Prelude.{◌≡◌, ℕ, ◌+◌, ◌-◌, ◌<◌, ◌≤◌, List, [], ◌∷◌, ◌++◌, length, slice_index};
 ghost use Rattle.std.specs.Vec.{vec_capacity};
 ghost use Rattle.nogood_store.specs.declared.nogood.Nogood.{Nogood};
 ghost use Rattle.nogood_store.specs.declared.step.Step.{Step};
-ghost use Rattle.nogood_store.specs.Waits.{box_of, waits, Rising};
+ghost use Rattle.nogood_store.specs.Waits.{box_of, Rising};
 ghost use Rattle.nogood_store.specs.Places.{AreFor, literals_of, to_match};
-ghost use Rattle.nogood_store.specs.Steps.{AreSteps, IsStep};
+ghost use Rattle.nogood_store.specs.Steps.{AreSteps, StepsLast};
 ghost use Rattle.nogood_store.specs.Entered.{AreEntered, AreKnown, AreMarks};
 
 use crate::Nogood;
@@ -144,10 +144,7 @@ fn last_step(chains: &Chains, list: &[Nogood], codes: &[u32], code: u32) -> Opti
     requires stand { AreFor list.now codes.now chains.now.lists }
     requires entries { chains.now.entries ≡ length list.now }
     requires rising { (e : ℕ) → e < length list.now → Rising 0 (box_of list.now e) }
-    ensures { MatchOption result
-        (waits codes.now (box_of list.now (length list.now - 1)) ≡ length codes.now
-        → waits (codes.now ++ code ∷ []) (box_of list.now (length list.now - 1)) ≡ length codes.now)
-        (λ s. (s.entry ≡ length list.now - 1) × IsStep list.now codes.now code s) }
+    ensures { StepsLast list.now codes.now code result }
 {
     let entry = list.len() - 1;
     let block = codes.len() as u32;

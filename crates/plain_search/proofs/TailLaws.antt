@@ -23,8 +23,6 @@ pub record AreFirst (c : Choices) (list : List ℕ) (k : ℕ) : Type 0 where
 abbrev pub IsLow : Choices → ℕ → ℕ → Type 0
 IsLow c b least = (code : ℕ) → code < count c b → least ≤ c.cost b code
 
-}
-
 -- one block more
 floor_more : (c : Choices) (b floor least : ℕ) → b < blocks c → IsFloor c (suc b) floor → IsLow c b least → IsFloor c b (floor + least)
 floor_more c b floor least l f low plan p =

@@ -1,5 +1,5 @@
 -- What is read is spelled so, and what is spelled so is read: literals, citations and records.
-use Rattle.std.proofs.Common.{◌≡◌, ℕ, ◌+◌, ◌^◌, ◌<◌, ◌≤◌, ◌⊎◌, Bool, true, false, cond, eqb, leb, ◌&&◌, List, [], ◌∷◌, ◌++◌, Option, Some, None, refl, sym, ap, subst, ◌∙◌, inl, inr, arith}
+use Rattle.std.proofs.Common.{◌≡◌, ℕ, ◌+◌, ◌-◌, ◌^◌, ◌<◌, ◌≤◌, ◌⊎◌, Bool, true, false, cond, eqb, leb, ◌&&◌, List, [], ◌∷◌, ◌++◌, Option, Some, None, refl, sym, ap, subst, ◌∙◌, inl, inr, arith}
 use Rattle.std.specs.Prelude.{codes}
 use Rattle.std.specs.Fmt.{decimal}
 use Rattle.std.specs.Str.{bytes_eq}
@@ -7,6 +7,7 @@ use Rattle.std.proofs.lemmas.Bool.{cases_Bool, and_parts, eqb-true, leb-true, le
 use Rattle.std.proofs.lemmas.Bool.Decides.{nat_tests, eqb_tells}
 use Rattle.std.proofs.lemmas.Option.{none-some, same_Some, cond_some, option_and_then_some}
 use Rattle.std.proofs.lemmas.Slice.Eq.{bytes_eq-Decides}
+use Rattle.code_table.specs.Sizes.{most_placements}
 use Rattle.plan_rule.specs.declared.literal.Literal.{Literal}
 use Rattle.refutation_log.specs.declared.record.Record.{Record}
 use Rattle.refutation_log.specs.declared.record.Record.TheVariants.{Branch, Fit, Energy}
@@ -27,48 +28,48 @@ abbrev lit : ℕ → ℕ → ℕ → Literal
 lit block lo hi = record { block = block; lo = lo; hi = hi }
 
 abbrev IsSpan : ℕ → List ℕ → Literal → Type 0
-IsSpan block t l = (t ≡ span_text l.lo l.hi) × (l.block ≡ block) × (l.lo < l.hi) × (l.hi ≤ 1048576)
+IsSpan block t l = (t ≡ span_text l.lo l.hi) × (l.block ≡ block) × (l.lo < l.hi) × (l.hi ≤ most_placements)
 
-one_code : (block lo : ℕ) (t : List ℕ) → t ≡ decimal lo → lo ≤ 1048575 → IsSpan block t (lit block lo (lo + 1))
+one_code : (block lo : ℕ) (t : List ℕ) → t ≡ decimal lo → lo < most_placements → IsSpan block t (lit block lo (lo + 1))
 one_code block lo t e le =
     let same : eqb (lo + 1) (lo + 1) ≡ true = grind (arith, nat_tests) in
     (rw same e, refl, omega arith, omega arith)
 
-more_codes : (block lo hi : ℕ) (t : List ℕ) → t ≡ decimal lo ++ 46 ∷ 46 ∷ decimal hi → lo + 2 ≤ hi → hi ≤ 1048576 → IsSpan block t (lit block lo hi)
+more_codes : (block lo hi : ℕ) (t : List ℕ) → t ≡ decimal lo ++ 46 ∷ 46 ∷ decimal hi → lo + 2 ≤ hi → hi ≤ most_placements → IsSpan block t (lit block lo hi)
 more_codes block lo hi t e le top =
     let other : eqb hi (lo + 1) ≡ false = grind (arith, nat_tests) in
     (rw other e, refl, omega arith, top)
 
 span-at : (block : ℕ) (t : List ℕ) (o : Option (List ℕ × List ℕ)) (l : Literal) → cut 46 t ≡ o → span_at block t o ≡ Some l → IsSpan block t l
 span-at block t None l cuts e =
-    let (lo, found, made) = bind_some (number_of 1048575 t) (λ lo. Some (lit block lo (lo + 1))) l e in
-    let n = number-takes 1048575 lo t (omega arith) found in
+    let (lo, found, made) = bind_some (number_of (most_placements - 1) t) (λ lo. Some (lit block lo (lo + 1))) l e in
+    let n = number-takes (most_placements - 1) lo t (omega arith) found in
     subst (λ (m : Literal). IsSpan block t m) (same_Some (lit block lo (lo + 1)) l made) (one_code block lo t n.0 n.1)
 span-at block t (Some (lo, [])) l cuts e = absurd (none-some l e)
 span-at block t (Some (lo, c ∷ hi)) l cuts e =
     let whole = (cut-takes 46 t (lo, c ∷ hi) cuts).whole in
-    let (dot, more) = if_some (eqb c 46) (number_of 1048576 lo >>= λ a. number_of 1048576 hi >>= λ b. cond (leb (a + 2) b) (Some (lit block a b)) None) l e in
-    let (a, found_a, rest) = bind_some (number_of 1048576 lo) (λ a. number_of 1048576 hi >>= λ b. cond (leb (a + 2) b) (Some (lit block a b)) None) l more in
-    let (b, found_b, last) = bind_some (number_of 1048576 hi) (λ b. cond (leb (a + 2) b) (Some (lit block a b)) None) l rest in
+    let (dot, more) = if_some (eqb c 46) (number_of most_placements lo >>= λ a. number_of most_placements hi >>= λ b. cond (leb (a + 2) b) (Some (lit block a b)) None) l e in
+    let (a, found_a, rest) = bind_some (number_of most_placements lo) (λ a. number_of most_placements hi >>= λ b. cond (leb (a + 2) b) (Some (lit block a b)) None) l more in
+    let (b, found_b, last) = bind_some (number_of most_placements hi) (λ b. cond (leb (a + 2) b) (Some (lit block a b)) None) l rest in
     let (le, made) = cond_some (leb (a + 2) b) (lit block a b) l last in
-    let n = number-takes 1048576 a lo (omega arith) found_a in
-    let m = number-takes 1048576 b hi (omega arith) found_b in
+    let n = number-takes most_placements a lo (omega arith) found_a in
+    let m = number-takes most_placements b hi (omega arith) found_b in
     let is : t ≡ decimal a ++ 46 ∷ 46 ∷ decimal b = whole ∙ ap (λ (d : ℕ). lo ++ 46 ∷ d ∷ hi) (eqb-true c 46 dot) ∙ ap (λ (s : List ℕ). s ++ 46 ∷ 46 ∷ hi) n.0 ∙ ap (λ (s : List ℕ). decimal a ++ 46 ∷ 46 ∷ s) m.0 in
     subst (λ (k : Literal). IsSpan block t k) made (more_codes block a b t is (leb-true (a + 2) b le) m.1)
 
-span-again : (block lo hi : ℕ) → lo < hi → hi ≤ 1048576 → span_of block (span_text lo hi) ≡ Some (lit block lo hi)
+span-again : (block lo hi : ℕ) → lo < hi → hi ≤ most_placements → span_of block (span_text lo hi) ≡ Some (lit block lo hi)
 unfolding span_of
 span-again block lo hi lt top =
     let number = decimal_within lo (omega arith) in
     let lacks = lacks_below 46 48 57 (decimal lo) (omega arith) number in
     elim (eqb_tells hi (lo + 1)) [
-      | inl (t, same) ↦ rw (t, cut-whole 46 (decimal lo) lacks, number-again 1048575 lo (omega arith) (omega arith)) (ap (λ (h : ℕ). Some (lit block lo h)) (sym same))
+      | inl (t, same) ↦ rw (t, cut-whole 46 (decimal lo) lacks, number-again (most_placements - 1) lo (omega arith) (omega arith)) (ap (λ (h : ℕ). Some (lit block lo h)) (sym same))
       | inr (t, other) ↦
           let le : leb (lo + 2) hi ≡ true = le-leb (lo + 2) hi (omega arith) in
-          rw (t, cut-again 46 (decimal lo) (46 ∷ decimal hi) lacks, number-again 1048576 lo (omega arith) (omega arith), number-again 1048576 hi (omega arith) (omega arith), le) refl
+          rw (t, cut-again 46 (decimal lo) (46 ∷ decimal hi) lacks, number-again most_placements lo (omega arith) (omega arith), number-again most_placements hi (omega arith) (omega arith), le) refl
     ]
 
-span_within : (lo hi : ℕ) → lo < hi → hi ≤ 1048576 → Within 46 58 (span_text lo hi)
+span_within : (lo hi : ℕ) → lo < hi → hi ≤ most_placements → Within 46 58 (span_text lo hi)
 span_within lo hi lt top =
     let a = within_wider 48 57 46 58 (decimal lo) (omega arith) (omega arith) (decimal_within lo (omega arith)) in
     let b = within_wider 48 57 46 58 (decimal hi) (omega arith) (omega arith) (decimal_within hi (omega arith)) in
@@ -154,14 +155,14 @@ abbrev begins : List ℕ → List ℕ → List ℕ
 begins front rest = front ++ 32 ∷ rest
 
 branch_parts : (t : List ℕ) (block lo hi : ℕ × List ℕ) (side : List Literal × List ℕ) (ks : List ℕ)
-    → field (number_of 31) 32 t ≡ Some block → field (number_of 1048576) 32 block.1 ≡ Some lo → field (number_of 1048576) 32 lo.1 ≡ Some hi
+    → field (number_of 31) 32 t ≡ Some block → field (number_of most_placements) 32 block.1 ≡ Some lo → field (number_of most_placements) 32 lo.1 ≡ Some hi
     → field side_of 32 hi.1 ≡ Some side → cites_of side.1 ≡ Some ks → lo.0 ≤ hi.0
     → (begins (codes "branch") t ≡ record_text (Branch block.0 lo.0 hi.0 side.0 ks)) × HasText (Branch block.0 lo.0 hi.0 side.0 ks)
 unfolding record_text
 branch_parts t block lo hi side ks e1 e2 e3 e4 e5 le =
     let t1 = below_field 31 (omega arith) t block e1 in
-    let t2 = below_field 1048576 (omega arith) block.1 lo e2 in
-    let t3 = below_field 1048576 (omega arith) lo.1 hi e3 in
+    let t2 = below_field most_placements (omega arith) block.1 lo e2 in
+    let t3 = below_field most_placements (omega arith) lo.1 hi e3 in
     let t4 = field-takes side_of side_text IsSide side-takes 32 hi.1 side e4 in
     let t5 = cites-takes side.1 ks e5 in
     let whole = t1.0 ∙ ap (begins (decimal block.0)) (t2.0 ∙ ap (begins (decimal lo.0)) (t3.0 ∙ ap (begins (decimal hi.0)) (t4.0 ∙ ap (begins (side_text side.0)) t5.0))) in
@@ -170,9 +171,9 @@ branch_parts t block lo hi side ks e1 e2 e3 e4 e5 le =
 branch-takes : (t : List ℕ) (r : Record) → branch_of t ≡ Some r → (begins (codes "branch") t ≡ record_text r) × HasText r
 unfolding branch_of
 branch-takes t r e =
-    option_and_then_some (λ (block : ℕ × List ℕ). field (number_of 1048576) 32 block.1 >>= λ lo. field (number_of 1048576) 32 lo.1 >>= λ hi. field side_of 32 hi.1 >>= λ side. cites_of side.1 >>= λ cites. cond (leb lo.0 hi.0) (Some (Branch block.0 lo.0 hi.0 side.0 cites)) None) (field (number_of 31) 32 t) r e (λ block e1 m1.
-    option_and_then_some (λ (lo : ℕ × List ℕ). field (number_of 1048576) 32 lo.1 >>= λ hi. field side_of 32 hi.1 >>= λ side. cites_of side.1 >>= λ cites. cond (leb lo.0 hi.0) (Some (Branch block.0 lo.0 hi.0 side.0 cites)) None) (field (number_of 1048576) 32 block.1) r m1 (λ lo e2 m2.
-    option_and_then_some (λ (hi : ℕ × List ℕ). field side_of 32 hi.1 >>= λ side. cites_of side.1 >>= λ cites. cond (leb lo.0 hi.0) (Some (Branch block.0 lo.0 hi.0 side.0 cites)) None) (field (number_of 1048576) 32 lo.1) r m2 (λ hi e3 m3.
+    option_and_then_some (λ (block : ℕ × List ℕ). field (number_of most_placements) 32 block.1 >>= λ lo. field (number_of most_placements) 32 lo.1 >>= λ hi. field side_of 32 hi.1 >>= λ side. cites_of side.1 >>= λ cites. cond (leb lo.0 hi.0) (Some (Branch block.0 lo.0 hi.0 side.0 cites)) None) (field (number_of 31) 32 t) r e (λ block e1 m1.
+    option_and_then_some (λ (lo : ℕ × List ℕ). field (number_of most_placements) 32 lo.1 >>= λ hi. field side_of 32 hi.1 >>= λ side. cites_of side.1 >>= λ cites. cond (leb lo.0 hi.0) (Some (Branch block.0 lo.0 hi.0 side.0 cites)) None) (field (number_of most_placements) 32 block.1) r m1 (λ lo e2 m2.
+    option_and_then_some (λ (hi : ℕ × List ℕ). field side_of 32 hi.1 >>= λ side. cites_of side.1 >>= λ cites. cond (leb lo.0 hi.0) (Some (Branch block.0 lo.0 hi.0 side.0 cites)) None) (field (number_of most_placements) 32 lo.1) r m2 (λ hi e3 m3.
     option_and_then_some (λ (side : List Literal × List ℕ). cites_of side.1 >>= λ cites. cond (leb lo.0 hi.0) (Some (Branch block.0 lo.0 hi.0 side.0 cites)) None) (field side_of 32 hi.1) r m3 (λ side e4 m4.
     option_and_then_some (λ (ks : List ℕ). cond (leb lo.0 hi.0) (Some (Branch block.0 lo.0 hi.0 side.0 ks)) None) (cites_of side.1) r m4 (λ ks e5 m5.
     let c = cond_some (leb lo.0 hi.0) (Branch block.0 lo.0 hi.0 side.0 ks) r m5 in
@@ -228,8 +229,8 @@ unfolding branch_of
 branch-again block lo hi side ks h =
     rw (
       number_field 31 block 32 (begins (decimal lo) (begins (decimal hi) (begins (side_text side) (cites_text ks)))) (omega arith) h.0 (inl (omega arith)),
-      number_field 1048576 lo 32 (begins (decimal hi) (begins (side_text side) (cites_text ks))) (omega arith) (omega (arith, h.1, h.2)) (inl (omega arith)),
-      number_field 1048576 hi 32 (begins (side_text side) (cites_text ks)) (omega arith) h.2 (inl (omega arith)),
+      number_field most_placements lo 32 (begins (decimal hi) (begins (side_text side) (cites_text ks))) (omega arith) (omega (arith, h.1, h.2)) (inl (omega arith)),
+      number_field most_placements hi 32 (begins (side_text side) (cites_text ks)) (omega arith) h.2 (inl (omega arith)),
       side_field side (cites_text ks) h.3,
       cites-again ks h.4,
       le-leb lo hi h.1,

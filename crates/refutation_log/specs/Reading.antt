@@ -1,7 +1,8 @@
 -- What a text is read as: the record of a line, and the log of all the bytes or its first fault.
-use Rattle.std.specs.Prelude.{◌≡◌, ℕ, ◌+◌, ◌==◌, nat_le, if◌then◌else◌, List, [], ◌∷◌, Option, Some, None, Result, Ok, Err, codes, ◌++◌, decimal}
+use Rattle.std.specs.Prelude.{◌≡◌, ℕ, ◌+◌, ◌-◌, ◌==◌, nat_le, if◌then◌else◌, List, [], ◌∷◌, Option, Some, None, Result, Ok, Err, codes, ◌++◌, decimal}
 use Rattle.std.specs.List.{slice_split}
 use Rattle.std.specs.Str.{bytes_eq}
+use Rattle.code_table.specs.Sizes.{most_placements}
 use Rattle.plan_rule.specs.declared.literal.Literal.{Literal}
 use Rattle.refutation_log.specs.declared.record.Record.{Record}
 use Rattle.refutation_log.specs.declared.record.Record.TheVariants.{Branch, Fit, Energy}
@@ -13,11 +14,11 @@ use Rattle.text_parts.specs.Parts.{◌>>=◌, cut, field, number_of}
 
 -- one code, or two dots and an end that leaves two codes or more
 abbrev pub span_at : ℕ → List ℕ → Option (List ℕ × List ℕ) → Option Literal
-span_at block text None = number_of 1048575 text >>= λ lo. Some (record { block = block; lo = lo; hi = lo + 1 })
+span_at block text None = number_of (most_placements - 1) text >>= λ lo. Some (record { block = block; lo = lo; hi = lo + 1 })
 span_at block text (Some (lo, [])) = None
 span_at block text (Some (lo, c ∷ hi)) =
     if c == 46
-    then (number_of 1048576 lo >>= λ l. number_of 1048576 hi >>= λ h. if nat_le (l + 2) h then Some (record { block = block; lo = l; hi = h }) else None)
+    then (number_of most_placements lo >>= λ l. number_of most_placements hi >>= λ h. if nat_le (l + 2) h then Some (record { block = block; lo = l; hi = h }) else None)
     else None
 
 -- the literal of a block whose codes are spelled so
@@ -58,8 +59,8 @@ cites_of text = list_of (λ k. k) cite_of text
 unfoldable pub branch_of : List ℕ → Option Record
 branch_of text = do
   block ← field (number_of 31) 32 text
-  lo ← field (number_of 1048576) 32 block.1
-  hi ← field (number_of 1048576) 32 lo.1
+  lo ← field (number_of most_placements) 32 block.1
+  hi ← field (number_of most_placements) 32 lo.1
   side ← field side_of 32 hi.1
   cites ← cites_of side.1
   if nat_le lo.0 hi.0 then Some (Branch block.0 lo.0 hi.0 side.0 cites) else None

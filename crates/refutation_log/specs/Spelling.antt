@@ -1,7 +1,8 @@
 -- The one text of a log.
-use Rattle.std.specs.Prelude.{ℕ, ◌+◌, ◌<◌, ◌≤◌, ◌^◌, ◌==◌, if◌then◌else◌, List, [], ◌∷◌, ◌++◌, map, codes}
+use Rattle.std.specs.Prelude.{ℕ, ◌+◌, ◌<◌, ◌≤◌, ◌==◌, if◌then◌else◌, List, [], ◌∷◌, ◌++◌, map, codes}
 use Rattle.std.specs.List.{flat_map, join_with_byte, AllByRecursion}
 use Rattle.std.specs.Fmt.{decimal}
+use Rattle.code_table.specs.Sizes.{most_placements}
 use Rattle.plan_rule.specs.declared.literal.Literal.{Literal}
 use Rattle.refutation_log.specs.Citations.{Ascend, AreCites}
 use Rattle.refutation_log.specs.declared.record.Record.{Record}
@@ -51,7 +52,7 @@ log_text records = codes "log 1\n" ++ (flat_map line_text records ++ codes "end\
 pub record IsLiteral (l : Literal) : Type 0 where
   pub block : l.block ≤ 31
   pub span : l.lo < l.hi
-  pub hi : l.hi ≤ 1048576
+  pub hi : l.hi ≤ most_placements
 
 -- a side that has a text
 abbrev pub IsSide : List Literal → Type 0
@@ -59,7 +60,7 @@ IsSide side = Ascend (λ (l : Literal). l.block) 0 side × AllByRecursion IsLite
 
 -- a record that has a text
 abbrev pub HasText : Record → Type 0
-HasText (Branch block lo hi side cites) = (block ≤ 31) × (lo ≤ hi) × (hi ≤ 1048576) × IsSide side × AreCites cites
+HasText (Branch block lo hi side cites) = (block ≤ 31) × (lo ≤ hi) × (hi ≤ most_placements) × IsSide side × AreCites cites
 HasText (Fit side) = IsSide side
 HasText (Energy from to side) = (from ≤ to) × (to ≤ 399) × IsSide side
 

@@ -6,6 +6,7 @@ ghost use Rattle.refutation_log.specs.Reading as spec;
 use crate::Record;
 use crate::fault::Unread;
 use crate::lists::{cites_of, number, number_before, side_of};
+use code_table::MOST_PLACEMENTS;
 use plan_rule::PlanBox;
 use std::alloc::Global;
 use text_parts::cut;
@@ -24,8 +25,8 @@ fn branch_of(alloc: Global, text: &[u8]) -> Result<Record, Unread>
     ensures { spec.Reads (λ x. x) result (spec.branch_of text.now) }
 {
     let (block, rest) = number_before(31, b' ', text)?;
-    let (lo, rest) = number_before(1_048_576, b' ', rest)?;
-    let (hi, rest) = number_before(1_048_576, b' ', rest)?;
+    let (lo, rest) = number_before(MOST_PLACEMENTS, b' ', rest)?;
+    let (hi, rest) = number_before(MOST_PLACEMENTS, b' ', rest)?;
     let (side, rest) = side_before(alloc, b' ', rest)?;
     let cites = cites_of(alloc, rest)?;
     if hi < lo {

@@ -6,6 +6,7 @@ ghost use Rattle.refutation_log.specs.Reading as spec;
 
 use crate::Cites;
 use crate::fault::Unread;
+use code_table::MOST_PLACEMENTS;
 use plan_rule::{Literal, PlanBox};
 use std::alloc::Global;
 use text_parts::{cut, number_of};
@@ -41,7 +42,7 @@ fn span_of(block: u8, text: &[u8]) -> Result<Literal, Unread>
 {
     match cut(text, b'.') {
         None => {
-            let lo = number(1_048_575, text)? as u32;
+            let lo = number(MOST_PLACEMENTS - 1, text)? as u32;
             Ok(Literal {
                 block,
                 lo,
@@ -49,8 +50,8 @@ fn span_of(block: u8, text: &[u8]) -> Result<Literal, Unread>
             })
         }
         Some((lo, [b'.', hi @ ..])) => {
-            let lo = number(1_048_576, lo)? as u32;
-            let hi = number(1_048_576, hi)? as u32;
+            let lo = number(MOST_PLACEMENTS, lo)? as u32;
+            let hi = number(MOST_PLACEMENTS, hi)? as u32;
             if lo + 2 <= hi {
                 Ok(Literal { block, lo, hi })
             } else {

@@ -38,5 +38,3 @@ answers_file file text log outcome is answer = record {
   told = is.told;
   answer = subst (λ r. AnswersYard r log outcome) is.same answer;
 }
-
-}

@@ -8,11 +8,12 @@ use Rattle.shape_exact.specs.Shapes.{Spot, IsShape, AreApart, edges, cross, side
 use Rattle.shape_exact.specs.Cells.{moved_spot}
 use Rattle.shape_exact.specs.Separation.{HasSeparatingEdge, EachEdgeSees, moved, way}
 use Rattle.shape_exact.proofs.RingLaws.{ring, linear}
-use Rattle.shape_exact.proofs.Plane.{Mark, Edge, side, rim, Every, Some_of, mark_of, Inside}
+use Rattle.shape_exact.specs.Plane.{Mark, Edge, side, rim, Every, Some_of, mark_of, Inside}
 use Rattle.shape_exact.proofs.LineLaws.{every_then}
 use Rattle.shape_exact.proofs.LoopLaws.{separated}
 use Rattle.shape_exact.proofs.MeetLaws.{Seen, meet}
-use Rattle.shape_exact.proofs.SumLaws.{shift, shift_edge, rim-shift, some_then, every_map}
+use Rattle.shape_exact.specs.Sums.{shift, shift_edge}
+use Rattle.shape_exact.proofs.SumLaws.{rim-shift, some_then, every_map}
 use Rattle.shape_exact.proofs.MoveLaws.{convex_shifted, seen_shifted, some_map}
 use Rattle.shape_exact.proofs.CellLaws.{list_all-agree}
 use Rattle.shape_exact.proofs.BridgeLaws.{pair, edges-rim, every_edge, some_edge, every_from_All, some_from_Any, map_every, convex_from, thick_from}

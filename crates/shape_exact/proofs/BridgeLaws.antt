@@ -7,7 +7,7 @@ use Rattle.std.proofs.lemmas.List.{get_or-map, length-map}
 use Rattle.shape_exact.specs.declared.point.Point.{Point}
 use Rattle.shape_exact.specs.Shapes.{IsShape, edges, cross}
 use Rattle.shape_exact.proofs.RingLaws.{ring, linear, one-mul, positive_mul}
-use Rattle.shape_exact.proofs.Plane.{Edge, side, links, rim, Every, Some_of, mark_of}
+use Rattle.shape_exact.specs.Plane.{Edge, side, links, rim, Every, Some_of, mark_of}
 use Rattle.shape_exact.proofs.LineLaws.{Sign, sign, above, none, below, every_then}
 use Rattle.shape_exact.proofs.HellyLaws.{norm}
 use Rattle.shape_exact.proofs.MeetLaws.{Convex, Seen}

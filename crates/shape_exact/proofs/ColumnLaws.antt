@@ -5,7 +5,7 @@ use Rattle.std.specs.Int.RustNames.{unsigned_abs}
 use Rattle.std.proofs.lemmas.Int.{ints, unsigned_abs-mul}
 use Rattle.std.proofs.Math.Nat.{mul-le-mul}
 use Rattle.shape_exact.specs.declared.point.Point.{Point}
-use Rattle.shape_exact.specs.declared.cells.Stretch.{Stretch}
+use Rattle.shape_exact.specs.declared.cells.Interval.{Interval}
 use Rattle.shape_exact.specs.Each.{sum_below}
 use Rattle.shape_exact.specs.Shapes.{side_of, is_inside, origin, centre, cells, reach_x, reach_y}
 use Rattle.shape_exact.specs.Cells.{Holds, centre_of}
@@ -13,7 +13,7 @@ use Rattle.shape_exact.proofs.RingLaws.{ring, linear}
 use Rattle.shape_exact.proofs.EachLaws.{sum-add_range, sum_below-const}
 use Rattle.shape_exact.proofs.ApartLaws.{above_from, above_to, both_true}
 use lib.IntN.{ℤ, pos, negsuc, ◌+ℤ◌, ◌-ℤ◌, ◌*ℤ◌}
-use lib.Signed.{◌<ℤ◌, ◌≤ℤ◌, lt_z}
+use lib.Signed.{◌<ℤ◌, ◌≤ℤ◌}
 
 -- what the edge asks of the columns in row j
 abbrev pub bound_of : Point → Point → ℤ → ℤ
@@ -49,7 +49,7 @@ bound_small a b c d ha hb hc hd = add (a *ℤ d) (b *ℤ c) (times a d ha hd) (t
     add : (a b : ℤ) → unsigned_abs a ≤ 40000000 → unsigned_abs b ≤ 40000000 → unsigned_abs (a -ℤ b) ≤ 1500000000
     add a b h k = omega (arith, ints)
 
--- ---- how many numbers a stretch has
+-- ---- how many numbers an interval has
 -- 1 for true
 abbrev pub one_if : Bool → ℕ
 one_if b = if b then 1 else 0
@@ -80,23 +80,23 @@ centre-same i j =
     let e : (k : ℕ) → (pos 2 *ℤ pos k) +ℤ pos 1 ≡ pos (2 * k + 1) = λ k. omega (arith, ints) in
     ap (λ x. record { x = x; y = (pos 2 *ℤ pos j) +ℤ pos 1; n = 2 }) (e i) ∙ ap (λ y. record { x = pos (2 * i + 1); y = y; n = 2 }) (e j)
 
--- a stretch that holds exactly the columns that pass has as many numbers as columns pass
-abbrev pub Passing : ℤ → (ℕ → Bool) → Stretch → Type 0
+-- an interval that holds exactly the columns that pass has as many numbers as columns pass
+abbrev pub Passing : ℤ → (ℕ → Bool) → Interval → Type 0
 Passing width t s = (i : ℕ) → Holds s (pos i) ↔ ((pos i <ℤ width) × (t i ≡ true))
 
-pub stretch_sum : (n : ℕ) (t : ℕ → Bool) (low high : ℤ) → low ≤ℤ high → pos 0 ≤ℤ low → high <ℤ pos n → Passing (pos n) t (record { low = low; high = high })
+pub interval_sum : (n : ℕ) (t : ℕ → Bool) (low high : ℤ) → low ≤ℤ high → pos 0 ≤ℤ low → high <ℤ pos n → Passing (pos n) t (record { low = low; high = high })
     → unsigned_abs (high -ℤ low) + 1 ≡ sum_below n (λ i. if t i then 1 else 0)
-stretch_sum n t (negsuc a) high l z m h = absurd (omega (arith, ints))
-stretch_sum n t (pos a) (negsuc b) l z m h = absurd (omega (arith, ints))
-stretch_sum n t (pos a) (pos b) l z m h =
+interval_sum n t (negsuc a) high l z m h = absurd (omega (arith, ints))
+interval_sum n t (pos a) (negsuc b) l z m h = absurd (omega (arith, ints))
+interval_sum n t (pos a) (pos b) l z m h =
     let c = range_sum n a (b + 1) t (omega (arith, ints)) (omega (arith, ints))
     (λ i k. (λ e. let r = (h i).1 (omega (arith, ints), e) in (let x = r.0 in omega (arith, ints), let x = r.1 in omega (arith, ints)), λ r. ((h i).0 (omega (arith, ints), omega (arith, ints))).1)) in
     let d : unsigned_abs (pos b -ℤ pos a) + 1 ≡ (b + 1) - a = omega (arith, ints) in
     d ∙ sym c
 
-pub stretch_none : (n : ℕ) (t : ℕ → Bool) (low high : ℤ) → high <ℤ low → Passing (pos n) t (record { low = low; high = high })
+pub interval_none : (n : ℕ) (t : ℕ → Bool) (low high : ℤ) → high <ℤ low → Passing (pos n) t (record { low = low; high = high })
     → 0 ≡ sum_below n (λ i. if t i then 1 else 0)
-stretch_none n t low high l h =
+interval_none n t low high l h =
     let c = sum_below-const n 0 (λ i. if t i then 1 else 0) (λ i k. none_when (t i) (λ e. let r = (h i).1 (omega (arith, ints), e) in none low high (pos i) l r.0 r.1)) in
     omega arith
   where
@@ -104,27 +104,27 @@ stretch_none n t low high l h =
     none a b i h k m = omega (arith, linear)
 
 -- ---- a row
-abbrev pub InRow : List Point → ℤ → ℤ → Stretch → Type 0
+abbrev pub InRow : List Point → ℤ → ℤ → Interval → Type 0
 InRow vs width j s = (i : ℤ) → Holds s i ↔ (((pos 0 ≤ℤ i) × (i <ℤ width)) × (is_inside vs origin (centre_of i j) ≡ true))
 
-passing_from : (vs : List Point) (n j : ℕ) (s : Stretch) → InRow vs (pos n) (pos j) s → Passing (pos n) (λ i. is_inside vs origin (centre i j)) s
+passing_from : (vs : List Point) (n j : ℕ) (s : Interval) → InRow vs (pos n) (pos j) s → Passing (pos n) (λ i. is_inside vs origin (centre i j)) s
 passing_from vs n j s h = λ i.
     subst (λ c. Holds s (pos i) ↔ ((pos i <ℤ pos n) × (is_inside vs origin c ≡ true))) (centre-same i j)
     (λ k. let r = (h (pos i)).0 k in (r.0.1, r.1), λ r. (h (pos i)).1 ((omega (arith, ints), r.0), r.1))
 
-pub row_sum : (vs : List Point) (n j : ℕ) (w r : ℤ) (s : Stretch) → w ≡ pos n → r ≡ pos j → InRow vs w r s → s.low ≤ℤ s.high
+pub row_sum : (vs : List Point) (n j : ℕ) (w r : ℤ) (s : Interval) → w ≡ pos n → r ≡ pos j → InRow vs w r s → s.low ≤ℤ s.high
     → unsigned_abs (s.high -ℤ s.low) + 1 ≡ sum_below n (λ i. one_if (is_inside vs origin (centre i j)))
 row_sum vs n j w r s d e h l =
     let g = subst (λ (r : ℤ). InRow vs (pos n) r s) e (subst (λ (w : ℤ). InRow vs w r s) d h) in
     let low = (g s.low).0 (at_most s.low, l) in
     let high = (g s.high).0 (l, at_most s.high) in
-    stretch_sum n (λ i. is_inside vs origin (centre i j)) s.low s.high l low.0.0 high.0.1 (passing_from vs n j s g)
+    interval_sum n (λ i. is_inside vs origin (centre i j)) s.low s.high l low.0.0 high.0.1 (passing_from vs n j s g)
   where
     at_most : (a : ℤ) → a ≤ℤ a
     at_most a = omega (arith, linear)
 
--- a stretch that is not empty lies within the row
-pub row_within : (vs : List Point) (n : ℕ) (w r : ℤ) (s : Stretch) → w ≡ pos n → InRow vs w r s → s.low ≤ℤ s.high → (pos 0 ≤ℤ s.low) × (s.high <ℤ pos n)
+-- an interval that is not empty lies within the row
+pub row_within : (vs : List Point) (n : ℕ) (w r : ℤ) (s : Interval) → w ≡ pos n → InRow vs w r s → s.low ≤ℤ s.high → (pos 0 ≤ℤ s.low) × (s.high <ℤ pos n)
 row_within vs n w r s d h l =
     let g = subst (λ (w : ℤ). InRow vs w r s) d h in
     (((g s.low).0 (at_most s.low, l)).0.0, ((g s.high).0 (l, at_most s.high)).0.1)
@@ -132,11 +132,11 @@ row_within vs n w r s d h l =
     at_most : (a : ℤ) → a ≤ℤ a
     at_most a = omega (arith, linear)
 
-pub row_none : (vs : List Point) (n j : ℕ) (w r : ℤ) (s : Stretch) → w ≡ pos n → r ≡ pos j → InRow vs w r s → s.high <ℤ s.low
+pub row_none : (vs : List Point) (n j : ℕ) (w r : ℤ) (s : Interval) → w ≡ pos n → r ≡ pos j → InRow vs w r s → s.high <ℤ s.low
     → 0 ≡ sum_below n (λ i. one_if (is_inside vs origin (centre i j)))
 row_none vs n j w r s d e h l =
     let g = subst (λ (r : ℤ). InRow vs (pos n) r s) e (subst (λ (w : ℤ). InRow vs w r s) d h) in
-    stretch_none n (λ i. is_inside vs origin (centre i j)) s.low s.high l (passing_from vs n j s g)
+    interval_none n (λ i. is_inside vs origin (centre i j)) s.low s.high l (passing_from vs n j s g)
 
 -- a row has at most as many as there are columns
 pub row_limit : (n : ℕ) (t : ℕ → Bool) → sum_below n (λ i. one_if (t i)) ≤ n

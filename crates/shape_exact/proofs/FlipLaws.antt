@@ -3,7 +3,7 @@ use Rattle.std.proofs.Common.{◌≡◌, arith, [], ◌∷◌}
 use Rattle.shape_exact.proofs.RingLaws.{ring, linear}
 use lib.IntN.{ℤ, ◌-ℤ◌, ◌*ℤ◌, neg_ℤ}
 use Rattle.shape_exact.specs.declared.point.Point.{Point}
-use Rattle.shape_exact.proofs.Plane.{Edge}
+use Rattle.shape_exact.specs.Plane.{Edge}
 use Rattle.shape_exact.specs.Shapes.{cross}
 
 abbrev pub flip : Edge → Edge

@@ -4,7 +4,7 @@ use Rattle.shape_exact.proofs.RingLaws.{ring, linear, mul-one, one-mul, mul-zero
 use Rattle.std.proofs.lemmas.Int.{ints}
 use lib.IntN.{ℤ, pos, negsuc, ◌+ℤ◌, ◌-ℤ◌, ◌*ℤ◌, neg_ℤ}
 use lib.Signed.{◌<ℤ◌, ◌≤ℤ◌}
-use Rattle.shape_exact.proofs.Plane.{Edge, Mark, side, Every, mark_of}
+use Rattle.shape_exact.specs.Plane.{Edge, Mark, side, Every, mark_of}
 use Rattle.shape_exact.proofs.LinearLaws.{mix, four}
 use Rattle.shape_exact.proofs.NudgeLaws.{nudge}
 use Rattle.shape_exact.proofs.LineLaws.{Sign, sign, above, none, below, Place, level, Paired, line_helly, both, every_then}

@@ -4,7 +4,6 @@ pub mod CellLaws
 pub mod TurnLaws
 pub mod FormLaws
 pub mod RingLaws
-pub mod Plane
 pub mod LinearLaws
 pub mod LoopLaws
 pub mod NudgeLaws

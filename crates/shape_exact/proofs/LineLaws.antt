@@ -3,7 +3,7 @@ use Rattle.std.proofs.Common.{◌≡◌, refl, sym, ap, ◌∙◌, subst, arith,
 use Rattle.shape_exact.proofs.RingLaws.{ring, linear, mul-neg, neg-mul, mul-one, mul-zero, zero-mul, not_negative_mul, positive_mul, positive_cancel}
 use lib.IntN.{ℤ, pos, negsuc, ◌+ℤ◌, ◌-ℤ◌, ◌*ℤ◌, neg_ℤ, *ℤ_comm}
 use lib.Signed.{◌<ℤ◌, ◌≤ℤ◌, lt_z}
-use Rattle.shape_exact.proofs.Plane.{Every}
+use Rattle.shape_exact.specs.Plane.{Every}
 use Rattle.shape_exact.proofs.NudgeLaws.{nudge}
 
 -- the three cases of a number

@@ -2,7 +2,7 @@
 use Rattle.std.proofs.Common.{◌≡◌, arith}
 use Rattle.shape_exact.proofs.RingLaws.{ring, linear}
 use lib.IntN.{ℤ, ◌+ℤ◌, ◌-ℤ◌, ◌*ℤ◌}
-use Rattle.shape_exact.proofs.Plane.{Mark}
+use Rattle.shape_exact.specs.Plane.{Mark}
 
 abbrev pub mix : ℤ → Mark → ℤ → Mark → Mark
 mix p u q w = record { x = p *ℤ u.x +ℤ q *ℤ w.x; y = p *ℤ u.y +ℤ q *ℤ w.y; n = p *ℤ u.n +ℤ q *ℤ w.n }

@@ -4,7 +4,7 @@ use Rattle.shape_exact.proofs.RingLaws.{ring, linear, mul-neg, not_negative_mul,
 use lib.IntN.{ℤ, pos, ◌+ℤ◌, ◌-ℤ◌, ◌*ℤ◌, neg_ℤ}
 use lib.Signed.{◌<ℤ◌, ◌≤ℤ◌}
 use Rattle.shape_exact.specs.declared.point.Point.{Point}
-use Rattle.shape_exact.proofs.Plane.{Edge, Mark, side, links, Every, Inside, mark_of}
+use Rattle.shape_exact.specs.Plane.{Edge, Mark, side, links, Every, Inside, mark_of}
 use Rattle.shape_exact.proofs.LinearLaws.{plucker}
 
 -- n times twice the area of z, a and b, in whole numbers

@@ -4,7 +4,7 @@ use Rattle.shape_exact.proofs.RingLaws.{ring, linear, mul-one, one-mul, not_nega
 use lib.IntN.{ℤ, pos, ◌+ℤ◌, ◌-ℤ◌, ◌*ℤ◌}
 use lib.Signed.{◌<ℤ◌, ◌≤ℤ◌}
 use Rattle.shape_exact.specs.declared.point.Point.{Point}
-use Rattle.shape_exact.proofs.Plane.{Edge, Mark, side, Every, Some_of, mark_of, rim, Inside}
+use Rattle.shape_exact.specs.Plane.{Edge, Mark, side, Every, Some_of, mark_of, rim, Inside}
 use Rattle.shape_exact.proofs.LinearLaws.{mix}
 use Rattle.shape_exact.proofs.NudgeLaws.{nudge}
 use Rattle.shape_exact.proofs.LineLaws.{both, every_then}

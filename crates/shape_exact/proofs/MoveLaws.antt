@@ -4,10 +4,11 @@ use Rattle.shape_exact.proofs.RingLaws.{ring, linear}
 use lib.IntN.{ℤ, pos, ◌+ℤ◌, ◌-ℤ◌, ◌*ℤ◌, neg_ℤ}
 use lib.Signed.{◌<ℤ◌, ◌≤ℤ◌}
 use Rattle.shape_exact.specs.declared.point.Point.{Point}
-use Rattle.shape_exact.proofs.Plane.{Edge, Mark, side, Every, Some_of, mark_of, rim, links, Inside}
+use Rattle.shape_exact.specs.Plane.{Edge, Mark, side, Every, Some_of, mark_of, rim, links, Inside}
 use Rattle.shape_exact.proofs.LineLaws.{every_then}
 use Rattle.shape_exact.proofs.MeetLaws.{Convex, Seen}
-use Rattle.shape_exact.proofs.SumLaws.{shift, shift_edge, rim-shift, some_then, every_map}
+use Rattle.shape_exact.specs.Sums.{shift, shift_edge}
+use Rattle.shape_exact.proofs.SumLaws.{rim-shift, some_then, every_map}
 
 abbrev pub quarter : Point → Point
 quarter p = record { x = neg_ℤ p.y; y = p.x }

@@ -3,7 +3,7 @@ use Rattle.std.proofs.Common.{◌≡◌, ap, ◌∙◌, arith, suc, List, [], �
 use Rattle.shape_exact.proofs.RingLaws.{linear, add-mul, mul-add, mul-one, mul-neg, not_negative_mul}
 use lib.IntN.{ℤ, pos, negsuc, ◌+ℤ◌, ◌-ℤ◌, ◌*ℤ◌, neg_ℤ}
 use lib.Signed.{◌<ℤ◌, ◌≤ℤ◌}
-use Rattle.shape_exact.proofs.Plane.{Every}
+use Rattle.shape_exact.specs.Plane.{Every}
 
 -- a number that is not negative and that g lies above when negated
 reach : ℤ → ℤ

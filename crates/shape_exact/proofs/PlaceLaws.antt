@@ -11,9 +11,10 @@ use Rattle.shape_exact.proofs.EachLaws.{sum-add_range, sum_below-const, sum-agre
 use Rattle.shape_exact.proofs.CellLaws.{inside-shift}
 use Rattle.shape_exact.proofs.TurnLaws.{high_x, high_y}
 use Rattle.shape_exact.proofs.FormLaws.{not_left, not_under, normal}
-use Rattle.shape_exact.proofs.Plane.{Mark, Every, Inside}
+use Rattle.shape_exact.specs.Plane.{Mark, Every, Inside}
 use Rattle.shape_exact.proofs.LineLaws.{every_then}
-use Rattle.shape_exact.proofs.SumLaws.{shift, every_map}
+use Rattle.shape_exact.specs.Sums.{shift}
+use Rattle.shape_exact.proofs.SumLaws.{every_map}
 use Rattle.shape_exact.proofs.MoveLaws.{quarter, quarter_mark, inside_quarter}
 use Rattle.shape_exact.proofs.WallLaws.{not_right}
 use Rattle.shape_exact.proofs.BridgeLaws.{every_from_All}

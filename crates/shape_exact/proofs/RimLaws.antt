@@ -1,7 +1,7 @@
 -- The edges of a closed line, by number.
 use Rattle.std.proofs.Common.{◌≡◌, refl, arith, ℕ, zero, suc, ◌+◌, ◌<◌, List, [], ◌∷◌, length, get_or, add-one}
 use Rattle.shape_exact.specs.declared.point.Point.{Point}
-use Rattle.shape_exact.proofs.Plane.{Edge, rim, links}
+use Rattle.shape_exact.specs.Plane.{Edge, rim, links}
 
 length-links : (first p : Point) (qs : List Point) → length (links first p qs) ≡ length qs + 1
 length-links first p [] = refl

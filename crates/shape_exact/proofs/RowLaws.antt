@@ -57,7 +57,7 @@ pub quotient_is : (d c x : ℤ) → pos 0 <ℤ d → ((d *ℤ x) ≤ℤ c) ↔ (
 quotient_is (pos d) c x h = (below_quotient d c x (omega (arith, linear)), times_below d c x (omega (arith, linear)))
 quotient_is (negsuc d) c x h = absurd (omega (arith, linear))
 
--- the cut of a stretch from above, and from below
+-- the cut of an interval from above, and from below
 pub cut_top : (slope bound q x : ℤ) → ((slope *ℤ x) ≤ℤ (bound -ℤ pos 1)) ↔ (x ≤ℤ q) → ((slope *ℤ x) <ℤ bound) ↔ (x ≤ℤ q)
 cut_top slope bound q x e = (λ h. e.0 (omega (arith, linear)), λ h. let i = e.1 h in omega (arith, linear))
 

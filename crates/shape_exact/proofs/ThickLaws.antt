@@ -4,7 +4,7 @@ use Rattle.shape_exact.proofs.RingLaws.{ring, linear, mul-zero, positive_mul}
 use lib.IntN.{ℤ, pos, ◌+ℤ◌, ◌-ℤ◌, ◌*ℤ◌}
 use lib.Signed.{◌<ℤ◌, ◌≤ℤ◌}
 use Rattle.shape_exact.specs.declared.point.Point.{Point}
-use Rattle.shape_exact.proofs.Plane.{Edge, side, Every, Some_of, mark_of, rim, links}
+use Rattle.shape_exact.specs.Plane.{Edge, side, Every, Some_of, mark_of, rim, links}
 use Rattle.shape_exact.proofs.LineLaws.{Sign, sign, above, none, below, both}
 use Rattle.shape_exact.proofs.HellyLaws.{norm}
 use Rattle.shape_exact.proofs.MeetLaws.{Convex, Seen}

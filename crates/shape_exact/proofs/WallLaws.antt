@@ -6,7 +6,7 @@ use lib.IntN.{ℤ, pos, negsuc, ◌-ℤ◌, ◌*ℤ◌, neg_ℤ}
 use lib.Signed.{◌<ℤ◌, ◌≤ℤ◌, lt_z}
 use Rattle.std.proofs.Common.{Bool, true, false}
 use Rattle.shape_exact.specs.declared.point.Point.{Point}
-use Rattle.shape_exact.proofs.Plane.{Edge, Mark, side, Every, mark_of, Inside}
+use Rattle.shape_exact.specs.Plane.{Edge, Mark, side, Every, mark_of, Inside}
 use Rattle.shape_exact.proofs.LineLaws.{every_then}
 use Rattle.shape_exact.proofs.LoopLaws.{separated}
 

@@ -1,12 +1,12 @@
 -- The columns of a row of cells.
 use Rattle.std.specs.Prelude.{ℕ, ℤ, pos, ◌+ℤ◌, ◌*ℤ◌, ◌≤ℤ◌, List, if◌then◌else◌}
-use Rattle.shape_exact.specs.declared.cells.Stretch.{Stretch}
+use Rattle.shape_exact.specs.declared.cells.Interval.{Interval}
 use Rattle.shape_exact.specs.declared.point.Point.{Point}
 use Rattle.shape_exact.specs.Each.{sum_below}
 use Rattle.shape_exact.specs.Shapes.{Spot, centre, is_inside}
 
--- the number is one of the stretch
-abbrev pub Holds : Stretch → ℤ → Type 0
+-- the number is one of the interval
+abbrev pub Holds : Interval → ℤ → Type 0
 Holds s i = (s.low ≤ℤ i) × (i ≤ℤ s.high)
 
 -- the centre of the cell in this column and this row

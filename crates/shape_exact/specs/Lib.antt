@@ -6,3 +6,5 @@ pub mod Yards
 pub mod Separation
 pub mod Reading
 pub mod Cells
+pub mod Plane
+pub mod Sums

@@ -13,7 +13,7 @@ use crate::{Point, Shape};
 
 /// The whole numbers from `low` to `high`; there is none where `high` is below `low`.
 #[derive(Clone, Copy)]
-pub(crate) struct Stretch {
+pub(crate) struct Interval {
     pub low: i32,
     pub high: i32,
 }
@@ -28,8 +28,8 @@ fn quotient(number: i32, divisor: i32) -> i32
     number.div_euclid(divisor)
 }
 
-/// The numbers of the stretch whose `slope`-fold is below `bound`.
-fn cut(s: Stretch, slope: i32, bound: i32) -> Stretch
+/// The numbers of the interval whose `slope`-fold is below `bound`.
+fn cut(s: Interval, slope: i32, bound: i32) -> Interval
     requires slope { unsigned_abs slope ≤ 1_000_000 }
     requires bound { unsigned_abs bound ≤ 1_500_000_000 }
     ensures { (x : ℤ) → Holds result x ↔ (Holds s x × ((slope *ℤ x) <ℤ bound)) }
@@ -37,7 +37,7 @@ fn cut(s: Stretch, slope: i32, bound: i32) -> Stretch
     if slope > 0 {
         let top = quotient(bound - 1, slope);
         if top < s.high {
-            Stretch {
+            Interval {
                 low: s.low,
                 high: top,
             }
@@ -47,7 +47,7 @@ fn cut(s: Stretch, slope: i32, bound: i32) -> Stretch
     } else if slope < 0 {
         let bottom = -quotient(bound - 1, -slope);
         if s.low < bottom {
-            Stretch {
+            Interval {
                 low: bottom,
                 high: s.high,
             }
@@ -57,12 +57,12 @@ fn cut(s: Stretch, slope: i32, bound: i32) -> Stretch
     } else if bound > 0 {
         s
     } else {
-        Stretch { low: 1, high: 0 }
+        Interval { low: 1, high: 0 }
     }
 }
 
-/// The columns of the stretch whose cell in row `j` has its centre strictly on the inner side of the edge.
-fn cut_by(columns: Stretch, from: Point, to: Point, j: i32) -> Stretch
+/// The columns of the interval whose cell in row `j` has its centre strictly on the inner side of the edge.
+fn cut_by(columns: Interval, from: Point, to: Point, j: i32) -> Interval
     requires from { IsWithin 2000 from }
     requires to { IsWithin 2000 to }
     requires j { (pos 0 ≤ℤ j) × (j ≤ℤ pos 2000) }
@@ -74,7 +74,7 @@ fn cut_by(columns: Stretch, from: Point, to: Point, j: i32) -> Stretch
 }
 
 /// The columns, of the first `width`, whose cell in row `j` has its centre strictly inside.
-fn row(vertices: &[Point], width: i32, j: i32) -> Stretch
+fn row(vertices: &[Point], width: i32, j: i32) -> Interval
     requires vertices { All (IsWithin 2000) vertices.now }
     requires width { (pos 0 ≤ℤ width) × (width ≤ℤ pos 2000) }
     requires j { (pos 0 ≤ℤ j) × (j ≤ℤ pos 2000) }
@@ -82,7 +82,7 @@ fn row(vertices: &[Point], width: i32, j: i32) -> Stretch
         → Holds result i
         ↔ (((pos 0 ≤ℤ i) × (i <ℤ width)) × (is_inside vertices.now origin (centre_of i j) ≡ true)) }
 {
-    let mut columns = Stretch {
+    let mut columns = Interval {
         low: 0,
         high: width - 1,
     };

@@ -96,7 +96,7 @@ fn least_in(tables: &YardTables<'_>, list: &[Standing], lefts: &[Left], block: u
     ensures least { IsLeastOf (MayFit (choices tables.now.yard) (literals_of list.now) block) ((choices tables.now.yard).cost block) result }
     ensures few { IfSome result (λ n. n ≤ 400000) }
 {
-    tables.codes().limits();
+    let _yard = tables.codes().yard();
     let _slots = tables.slots(block);
     cost_of(lefts[block as usize])
 }
@@ -136,7 +136,7 @@ fn is_clear(tables: &YardTables<'_>, list: &[Standing], block: u8, code: u32) ->
     ensures yes { result ≡ true → IsClearAt tables.now.yard list.now block code }
     ensures no { result ≡ false → IsClearAt tables.now.yard list.now block code → ⊥ }
 {
-    tables.codes().limits();
+    let _yard = tables.codes().yard();
     let new = standing_at(tables, block, code);
     let mut near = ArrayVec::new();
     near_to(tables, list, new.place, &mut near);
@@ -154,7 +154,7 @@ impl<'a> Frontier<'a> {
         ensures yard { IfOk result (λ frontier. frontier.yard ≡ tables.now.yard) }
         ensures empty { IfOk result (λ frontier. frontier.literals ≡ []) }
     {
-        tables.codes().limits();
+        let _yard = tables.codes().yard();
         let mut levels = Vec::with_capacity(alloc, 33)?;
         levels.push(Level {
             lefts: first_lefts(tables),

@@ -62,7 +62,7 @@ impl<'a> YardTables<'a> {
     pub fn new(alloc: Global, codes: &'a Codes) -> Result<YardTables<'a>, NoMemory>
         ensures { IfOk result (λ tables. tables.yard ≡ codes.now) }
     {
-        codes.limits();
+        let _yard = codes.yard();
         let slots = all_slots(alloc, codes)?;
         let obstacles = Obstacles::new(alloc, codes)?;
         let rows = Rows::new(alloc, codes, obstacles.list.as_slice())?;

@@ -3,7 +3,7 @@ use Rattle.std.specs.Int.RustNames.{unsigned_abs}
 use Rattle.std.proofs.lemmas.Int.{to_z-of_z, ints}
 use Rattle.std.proofs.lemmas.List.{take_all}
 use Rattle.minkowski_obstacles.specs.declared.side.Side.{Side}
-use Rattle.minkowski_obstacles.specs.Stretches.{Holds}
+use Rattle.minkowski_obstacles.specs.Intervals.{Holds}
 use Rattle.minkowski_obstacles.proofs.ObstacleLaws.{IsHeld, held_more}
 use Rattle.minkowski_obstacles.proofs.obstacle.row_within.Goals as goal
 

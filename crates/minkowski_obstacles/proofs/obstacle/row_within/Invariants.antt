@@ -1,7 +1,7 @@
 use Rattle.std.proofs.Common.{ℤ, pos, negsuc, ◌<ℤ◌, ◌≤ℤ◌, ◌↔◌, take}
 use Rattle.std.specs.List.{All}
 use Rattle.minkowski_obstacles.specs.Pairs.{offset}
-use Rattle.minkowski_obstacles.specs.Stretches.{Holds}
+use Rattle.minkowski_obstacles.specs.Intervals.{Holds}
 use Rattle.minkowski_obstacles.specs.Sums.{value}
 use Rattle.minkowski_obstacles.proofs.obstacle.row_within.Given as goal
 

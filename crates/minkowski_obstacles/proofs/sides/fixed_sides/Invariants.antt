@@ -1,7 +1,7 @@
 use Rattle.std.proofs.Common.{take, length, ◌≡◌}
 use Rattle.std.specs.List.{AllZip, All}
-use Rattle.shape_exact.proofs.Plane.{rim}
-use Rattle.shape_exact.proofs.SumLaws.{Of_fixed}
+use Rattle.shape_exact.specs.Plane.{rim}
+use Rattle.shape_exact.specs.Sums.{Of_fixed}
 use Rattle.minkowski_obstacles.specs.Sums.{wall, IsSmall}
 use Rattle.minkowski_obstacles.proofs.sides.fixed_sides.Given as goal
 

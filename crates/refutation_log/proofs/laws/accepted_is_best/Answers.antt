@@ -1,4 +1,3 @@
-use Rattle.std.proofs.Common.{option_map}
 use Rattle.refutation_log.proofs.AcceptedLaws.{accepted_of_yard}
 use Rattle.refutation_log.proofs.laws.accepted_is_best.Goals as goal
 

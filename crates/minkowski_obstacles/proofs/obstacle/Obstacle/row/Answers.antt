@@ -2,8 +2,8 @@ use Rattle.std.proofs.Common.{ℤ, pos, negsuc, ◌≡◌, ◌≤ℤ◌, ◌<ℤ
 use lib.Signed.{le_z}
 use Rattle.std.proofs.lemmas.Int.{to_z-of_z, ints}
 use Rattle.minkowski_obstacles.specs.declared.side.Side.{Side}
-use Rattle.minkowski_obstacles.specs.declared.stretch.Stretch.{Stretch}
-use Rattle.minkowski_obstacles.specs.Stretches.{Holds}
+use Rattle.minkowski_obstacles.specs.declared.interval.Interval.{Interval}
+use Rattle.minkowski_obstacles.specs.Intervals.{Holds}
 use Rattle.minkowski_obstacles.specs.Pairs.{Pair, IsRow, IsEmptyRow}
 use Rattle.minkowski_obstacles.proofs.ObstacleLaws.{IsHeld, row_is, row_none}
 use Rattle.minkowski_obstacles.proofs.obstacle.Obstacle.row.Goals as goal
@@ -20,11 +20,11 @@ same a = omega (arith, ints)
 few : (a : ℤ) → negsuc 1999 ≤ℤ a → a ≤ℤ pos 2000 → FitsSigned w32 a
 few a h k = omega (arith, ints)
 
--- the ends of a stretch that holds something are among what it holds
-low_fits : (s : Stretch) (ss : List Side) (y : ℤ) → ((x : ℤ) → Holds s x ↔ IsHeld ss y x) → s.low ≤ℤ s.high → FitsSigned w32 s.low
+-- the ends of an interval that holds something are among what it holds
+low_fits : (s : Interval) (ss : List Side) (y : ℤ) → ((x : ℤ) → Holds s x ↔ IsHeld ss y x) → s.low ≤ℤ s.high → FitsSigned w32 s.low
 low_fits s ss y h l = let r = (h s.low).0 (same s.low, l) in few s.low r.0.0 r.0.1
 
-high_fits : (s : Stretch) (ss : List Side) (y : ℤ) → ((x : ℤ) → Holds s x ↔ IsHeld ss y x) → s.low ≤ℤ s.high → FitsSigned w32 s.high
+high_fits : (s : Interval) (ss : List Side) (y : ℤ) → ((x : ℤ) → Holds s x ↔ IsHeld ss y x) → s.low ≤ℤ s.high → FitsSigned w32 s.high
 high_fits s ss y h l = let r = (h s.high).0 (l, same s.high) in few s.high r.0.0 r.0.1
 
 pub overflow_cast-result : goal.overflow_cast-result

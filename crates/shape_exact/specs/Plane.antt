@@ -1,4 +1,4 @@
--- The words of the lemmas about closed lines: marks with a common denominator, edges, and the sides of an edge.
+-- Closed lines in the plane: marks with a common denominator, edges, and the sides of an edge.
 use Rattle.std.specs.Prelude.{ℤ, pos, ◌-ℤ◌, ◌*ℤ◌, ◌<ℤ◌, List, [], ◌∷◌, ◌⊎◌}
 use Rattle.shape_exact.specs.declared.point.Point.{Point}
 

@@ -1,7 +1,7 @@
 use Rattle.std.proofs.Common.{ℤ, ◌≤ℤ◌, ◌≡◌, ◌↔◌, w64, arith, FitsSigned, rules}
 use Rattle.std.specs.Int.{int_max}
 use Rattle.std.proofs.lemmas.Int.{to_z-of_z, ints, clamps}
-use Rattle.minkowski_obstacles.proofs.stretch.Stretch.down_to.Goals as goal
+use Rattle.minkowski_obstacles.proofs.interval.Interval.down_to.Goals as goal
 
 below_max : (low bottom m x : ℤ) → m ≡ int_max low bottom → low ≤ℤ x → bottom ≤ℤ x → m ≤ℤ x
 below_max low bottom m x e h k = omega (arith, ints, clamps)

@@ -3,7 +3,7 @@ use Rattle.std.proofs.lemmas.Int.{to_z-of_z, ints}
 use Rattle.minkowski_obstacles.specs.Pairs.{IsRow, IsEmptyRow}
 use Rattle.lattice_free.specs.Runs.{place}
 use Rattle.lattice_free.proofs.PlaceLaws.{clear_from, row_held, row_clear, row_free}
-use Rattle.lattice_free.proofs.forbidden.stretch_of.Goals as goal
+use Rattle.lattice_free.proofs.forbidden.forbidden_of.Goals as goal
 
 at_fits : (a : ℤ) → pos 0 ≤ℤ a → a ≤ℤ pos 400 → FitsSigned w32 a
 at_fits a h k = omega (arith, ints)

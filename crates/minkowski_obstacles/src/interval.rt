@@ -1,10 +1,10 @@
-//! Stretches of whole numbers, cut by the lines of sides.
+//! Intervals of whole numbers, cut by the lines of sides.
 ghost use Rattle.std.specs.Prelude.{ℤ, pos, ◌≡◌, ◌≤◌, ◌≤ℤ◌, ◌<ℤ◌, ◌*ℤ◌, ◌↔◌, unsigned_abs};
-ghost use Rattle.minkowski_obstacles.specs.Stretches.{Holds};
+ghost use Rattle.minkowski_obstacles.specs.Intervals.{Holds};
 
 /// The whole numbers from `low` to `high`. There is none where `high` is below `low`.
 #[derive(Clone, Copy)]
-pub(crate) struct Stretch {
+pub(crate) struct Interval {
     pub(crate) low: i64,
     pub(crate) high: i64,
 }
@@ -19,9 +19,9 @@ fn quotient(number: i64, divisor: i64) -> i64
     number.div_euclid(divisor)
 }
 
-impl Stretch {
-    /// The numbers of the stretch whose `slope`-fold is below `bound`.
-    pub(crate) fn cut(self, slope: i64, bound: i64) -> Stretch
+impl Interval {
+    /// The numbers of the interval whose `slope`-fold is below `bound`.
+    pub(crate) fn cut(self, slope: i64, bound: i64) -> Interval
         requires slope { unsigned_abs slope ≤ 1_000_000 }
         requires bound { unsigned_abs bound ≤ 20_000_000_000_000 }
         ensures { (x : ℤ) → Holds result x ↔ (Holds self x × ((slope *ℤ x) <ℤ bound)) }
@@ -33,25 +33,25 @@ impl Stretch {
         } else if bound > 0 {
             self
         } else {
-            Stretch { low: 1, high: 0 }
+            Interval { low: 1, high: 0 }
         }
     }
 
-    /// The numbers of the stretch up to `top`.
-    fn up_to(self, top: i64) -> Stretch
+    /// The numbers of the interval up to `top`.
+    fn up_to(self, top: i64) -> Interval
         ensures { (x : ℤ) → Holds result x ↔ (Holds self x × (x ≤ℤ top)) }
     {
-        Stretch {
+        Interval {
             low: self.low,
             high: self.high.min(top),
         }
     }
 
-    /// The numbers of the stretch from `bottom` on.
-    fn down_to(self, bottom: i64) -> Stretch
+    /// The numbers of the interval from `bottom` on.
+    fn down_to(self, bottom: i64) -> Interval
         ensures { (x : ℤ) → Holds result x ↔ (Holds self x × (bottom ≤ℤ x)) }
     {
-        Stretch {
+        Interval {
             low: self.low.max(bottom),
             high: self.high,
         }

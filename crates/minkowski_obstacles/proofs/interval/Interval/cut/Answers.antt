@@ -3,7 +3,7 @@ use Rattle.std.specs.Int.RustNames.{unsigned_abs}
 use Rattle.std.proofs.lemmas.Int.{to_z-of_z, ints}
 use Rattle.shape_exact.proofs.RingLaws.{linear}
 use Rattle.shape_exact.proofs.RowLaws.{cut_top, cut_bottom}
-use Rattle.minkowski_obstacles.proofs.stretch.Stretch.cut.Goals as goal
+use Rattle.minkowski_obstacles.proofs.interval.Interval.cut.Goals as goal
 
 less_fits : (b : ℤ) → unsigned_abs b ≤ 20000000000000 → FitsSigned w64 (b -ℤ pos 1)
 less_fits b h = omega (arith, ints)
