@@ -11,7 +11,7 @@ use Rattle.shape_exact.specs.Plane.{Edge, Mark, side, Every, mark_of, Inside}
 use Rattle.shape_exact.proofs.LineLaws.{every_then}
 use Rattle.shape_exact.proofs.LoopLaws.{separated}
 use Rattle.shape_exact.proofs.MeetLaws.{meet}
-use Rattle.shape_exact.specs.Sums.{shift}
+use Rattle.shape_exact.specs.Sums.{shift, value as height}
 use Rattle.shape_exact.proofs.SumLaws.{sum_sees, sum_apart, every_map}
 use Rattle.shape_exact.proofs.MoveLaws.{convex_shifted, seen_shifted, some_map}
 use Rattle.shape_exact.proofs.WallLaws.{not_right}

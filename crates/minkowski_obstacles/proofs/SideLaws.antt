@@ -7,9 +7,9 @@ use Rattle.std.proofs.lemmas.List.Elements.{All-cons}
 use Rattle.shape_exact.specs.declared.point.Point.{Point}
 use Rattle.shape_exact.specs.Shapes.{cross, IsShape}
 use Rattle.shape_exact.proofs.RingLaws.{linear, zero-mul}
-use Rattle.shape_exact.specs.Plane.{side, rim, Every, Some_of, mark_of}
+use Rattle.shape_exact.specs.Plane.{Edge as Line, side, rim, Every, Some_of, mark_of}
 use Rattle.shape_exact.proofs.LineLaws.{every_then}
-use Rattle.shape_exact.specs.Sums.{Furthest, Of_fixed, Of_moving, Same_way, Is_sum}
+use Rattle.shape_exact.specs.Sums.{Side as Wall, Furthest, Of_fixed, Of_moving, Same_way, Is_sum}
 use Rattle.shape_exact.proofs.SumLaws.{pick, every_map}
 use Rattle.shape_exact.proofs.MoveLaws.{some_map}
 use Rattle.shape_exact.proofs.ZipLaws.{zip_some, zip_back}

@@ -3,7 +3,8 @@ use Rattle.std.specs.Prelude.{◌≡◌, ℤ, pos, ◌+ℤ◌, ◌-ℤ◌, ◌*�
 use Rattle.std.specs.List.{Contains}
 use Rattle.shape_exact.specs.declared.point.Point.{Point}
 use Rattle.shape_exact.specs.Separation.{IsWithin}
-use Rattle.shape_exact.specs.Sums.{Is_sum}
+use Rattle.shape_exact.specs.Plane.{Edge as Line}
+use Rattle.shape_exact.specs.Sums.{Side as Wall, Is_sum}
 use Rattle.minkowski_obstacles.specs.declared.edge.Edge.{Edge}
 use Rattle.minkowski_obstacles.specs.declared.side.Side.{Side}
 

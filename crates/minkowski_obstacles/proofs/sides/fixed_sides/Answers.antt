@@ -2,7 +2,7 @@ use Rattle.std.proofs.Common.{arith, length, take, ◌≤◌, ◌<◌, ◌+◌, 
 use Rattle.std.specs.List.{AllZip, All}
 use Rattle.std.proofs.lemmas.List.{take_all}
 use Rattle.std.proofs.lemmas.List.Elements.{All-push}
-use Rattle.shape_exact.specs.Plane.{rim}
+use Rattle.shape_exact.specs.Plane.{Edge as Line, rim}
 use Rattle.shape_exact.specs.Sums.{Of_fixed}
 use Rattle.shape_exact.proofs.RimLaws.{length-rim}
 use Rattle.shape_exact.proofs.ZipLaws.{zip_more}
