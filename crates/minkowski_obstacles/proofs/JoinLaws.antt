@@ -13,7 +13,7 @@ use Rattle.shape_exact.specs.Plane.{side, rim, Every, Some_of, mark_of}
 use Rattle.shape_exact.proofs.LineLaws.{every_then}
 use Rattle.shape_exact.proofs.MeetLaws.{Convex}
 use Rattle.shape_exact.proofs.ThickLaws.{ends}
-use Rattle.shape_exact.specs.Sums.{Of_fixed, Of_moving, Is_sum}
+use Rattle.shape_exact.specs.Sums.{Side as Wall, value as height, fixed_side as fixed_wall, moving_side as moving_wall, Of_fixed, Of_moving, Is_sum}
 use Rattle.shape_exact.proofs.SumLaws.{pick, map_every, fixed_value, parallel_at}
 use Rattle.shape_exact.proofs.BridgeLaws.{every_from_All, some_from_Any}
 use Rattle.minkowski_obstacles.specs.declared.side.Side.{Side}
