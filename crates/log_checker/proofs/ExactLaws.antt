@@ -111,13 +111,6 @@ all_exact yard side list up h f = (
   λ told. let (d, fixes, is) = told in (h f).1 (d, exact_has side f.block d fixes, is),
 )
 
--- placements that are on other plates, or share no day
-pub far_apart : (yard : PlainYard) (f : Exact) (b : ℕ) (p : Placement) → (MayClash f.place p → IsTrue false) → IsTrue false ↔ ClashesAt yard f b p
-far_apart yard f b p far = (
-  λ t. absurd (false≢true t),
-  λ m. let clash = m.clash in far (clash.plate, clash.first_starts, clash.second_starts),
-)
-
 -- the turned footprints of an exact block and of another at a placement
 pub record AreTurned (yard : PlainYard) (f : Exact) (b : ℕ) (p : Placement) (first second : List Point) : Type 0 where
   pub first_block : f.block < length yard.blocks

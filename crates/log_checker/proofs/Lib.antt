@@ -7,13 +7,12 @@ pub mod FitLaws
 pub mod ExactLaws
 pub mod FreeLaws
 pub mod LeastLaws
-pub mod NearLaws
+pub mod MaskLaws
 pub mod NearPieceLaws
 pub mod OffsetLaws
 pub mod OnwardLaws
 pub mod PassedLaws
 pub mod RestLaws
-pub mod ShutLaws
 pub mod SpanLaws
 pub mod StepLaws
 pub mod TieLaws

@@ -1,11 +1,9 @@
 -- Footprints that are apart stay so when both are shifted alike, so that their offset tells it.
-use Rattle.std.proofs.Common.{◌≡◌, ℕ, ◌<◌, ◌≤◌, List, get_or, Bool, true, false, Option, Some, refl, sym, ap, ◌∙◌, subst, arith}
-use Rattle.std.specs.Prelude.{length, slice_get, unsigned_abs, All, IfSome, IsTrue, nat_eq, not, ◌↔◌, ◌&&◌}
+use Rattle.std.proofs.Common.{◌≡◌, ℕ, ◌<◌, ◌≤◌, List, Bool, true, false, Some, refl, sym, ap, ◌∙◌, subst, arith}
+use Rattle.std.specs.Prelude.{length, slice_get, unsigned_abs, IsTrue, not, ◌↔◌, ◌&&◌}
 use Rattle.std.proofs.lemmas.Option.{same_Some}
 use Rattle.std.proofs.lemmas.Int.{ints}
-use Rattle.std.proofs.lemmas.Bool.{eqb-true, false≢true}
-use Rattle.std.proofs.lemmas.Bool.Decides.{Decides-int_eq}
-use Rattle.std.specs.Ordering.{int_eq}
+use Rattle.std.proofs.lemmas.Bool.{false≢true}
 use Rattle.shape_exact.specs.Yards.{PlainYard}
 use Rattle.shape_exact.specs.Shapes.{AreApart, Spot, is_inside, origin, turned}
 use Rattle.shape_exact.specs.Cells.{moved_spot}
@@ -19,9 +17,8 @@ use Rattle.plan_rule.specs.Clashes.{MayClash, place_of}
 use Rattle.plan_rule.proofs.ClashLaws.{element}
 use Rattle.log_checker.specs.declared.exact.Exact.{Exact}
 use Rattle.log_checker.specs.declared.offset.Offset.{Offset}
-use Rattle.log_checker.specs.declared.offset.Told.{Told}
 use Rattle.log_checker.specs.ExactBlocks.{ClashesAt, IsStanding}
-use Rattle.log_checker.specs.Offsets.{AreSoApart, IsOffset, IsTold, offset_of}
+use Rattle.log_checker.specs.Offsets.{AreSoApart, IsOffset, offset_of}
 use Rattle.log_checker.proofs.ExactLaws.{met_by_places}
 use lib.IntN.{ℤ, pos, ◌+ℤ◌, ◌-ℤ◌}
 
@@ -61,7 +58,7 @@ apart_here a b p q h s n first second =
     (inside_there b (way p q) p q s (same_point _ _ _ _ (given_on p.x q.x) (given_on p.y q.y)) second)
 
 -- placements that may clash, by their offset
-met_so : (yard : PlainYard) (f : Exact) (b : ℕ) (p : Placement) (apart : Bool) → f.block < length yard.blocks → b < length yard.blocks
+pub met_so : (yard : PlainYard) (f : Exact) (b : ℕ) (p : Placement) (apart : Bool) → f.block < length yard.blocks → b < length yard.blocks
     → MayClash f.place p → (IsTrue apart ↔ AreSoApart yard (offset_of f b p)) → IsTrue (not apart) ↔ ClashesAt yard f b p
 met_so yard f b p apart first second may told =
     let (one, one_is) = element yard.blocks f.block first in
@@ -88,12 +85,6 @@ met_so yard f b p apart first second may told =
         shapes = apart_here (turned f.place.turn one.shape) (turned p.turn two.shape) (place_of f.place) (place_of p) are;
       }),
     )
-
--- the same for an offset that is that one
-pub met_by_offset : (yard : PlainYard) (f : Exact) (b : ℕ) (p : Placement) (o : Offset) (apart : Bool) → f.block < length yard.blocks
-    → b < length yard.blocks → MayClash f.place p → o ≡ offset_of f b p → (IsTrue apart ↔ AreSoApart yard o) → IsTrue (not apart) ↔ ClashesAt yard f b p
-met_by_offset yard f b p o apart first second may e told =
-    met_so yard f b p apart first second may (subst (λ o. IsTrue apart ↔ AreSoApart yard o) e told)
 
 short : (a b : ℕ) → a ≤ 400 → b ≤ 400 → unsigned_abs (pos b -ℤ pos a) ≤ 10000
 short a b l m = first_of (omega (arith, linear), grind (arith, linear), grind (arith, ints), search (arith, ints))
@@ -129,40 +120,6 @@ so_apart yard o first second apart is first_is second_is told =
           (subst (λ g. AreApart (turned o.first_turn so.one.shape) origin g o.way) (sym (second_is so.two so.two_is)) so.shapes)),
     )
 
--- what a slot holds of this offset
-pub told_here : (yard : PlainYard) (list : List (Option Told)) (slot : ℕ) (d : Option Told) (t : Told) (o : Offset) → All (λ o. IfSome o (IsTold yard)) list
-    → slot < length list → d ≡ get_or list slot d → d ≡ Some t → t.of ≡ o → IsTrue t.apart ↔ AreSoApart yard o
-told_here yard list slot d t o all within at is same =
-    let here : IfSome (Some t) (IsTold yard) = subst (λ o. IfSome o (IsTold yard)) (sym at ∙ is) (all slot d within) in
-    subst (λ o. IsTrue t.apart ↔ AreSoApart yard o) same here
-
 pub both : (s t : Bool) → (s && t) ≡ true → (s ≡ true) × (t ≡ true)
 both true t e = (refl, e)
 both false t e = absurd (false≢true e)
-
--- offsets whose parts are equal
-pub same_offset : (o p : Offset)
-    → (nat_eq o.first p.first && (nat_eq o.first_turn p.first_turn && (nat_eq o.second p.second && (nat_eq o.second_turn p.second_turn
-    && (int_eq o.way.x p.way.x && int_eq o.way.y p.way.y))))) ≡ true
-    → o ≡ p
-same_offset o p e =
-    let a = both _ _ e in
-    let b = both _ _ a.1 in
-    let c = both _ _ b.1 in
-    let d = both _ _ c.1 in
-    let f = both _ _ d.1 in
-    let first = eqb-true _ _ a.0 in
-    let first_turn = eqb-true _ _ b.0 in
-    let second = eqb-true _ _ c.0 in
-    let second_turn = eqb-true _ _ d.0 in
-    let x = (Decides-int_eq o.way.x p.way.x).0 f.0 in
-    let y = (Decides-int_eq o.way.y p.way.y).0 f.1 in
-    ap (λ n. made n o.first_turn o.second o.second_turn o.way.x o.way.y) first
-    ∙ ap (λ n. made p.first n o.second o.second_turn o.way.x o.way.y) first_turn
-    ∙ ap (λ n. made p.first p.first_turn n o.second_turn o.way.x o.way.y) second
-    ∙ ap (λ n. made p.first p.first_turn p.second n o.way.x o.way.y) second_turn
-    ∙ ap (λ n. made p.first p.first_turn p.second p.second_turn n o.way.y) x
-    ∙ ap (λ n. made p.first p.first_turn p.second p.second_turn p.way.x n) y
-  where
-    made : ℕ → ℕ → ℕ → ℕ → ℤ → ℤ → Offset
-    made a s b t x y = record { first = a; first_turn = s; second = b; second_turn = t; way = record { x = x; y = y } }

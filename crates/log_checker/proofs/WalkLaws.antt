@@ -137,3 +137,13 @@ not_settled yard b cut exacts spans code kept below takes left clear h = elim h 
 pub code_below : (yard : PlainYard) (b hi code : ℕ) → b < blocks (choices yard) → hi ≤ count (choices yard) b → code < hi
     → code < length (placements yard b)
 code_below yard b hi code exists range below = let n = count-length yard b (block_exists yard b exists) in omega arith
+
+-- a walk that goes on from where another one came to
+pub skipped_on : (yard : PlainYard) (exacts : List Exact) (spans : List Span) (b from code next : ℕ)
+    → ((k : ℕ) → from ≤ k → k < code → InOne spans k ⊎ IsHindered yard exacts b k)
+    → ((k : ℕ) → code ≤ k → k < next → InOne spans k ⊎ IsHindered yard exacts b k)
+    → (k : ℕ) → from ≤ k → k < next → InOne spans k ⊎ IsHindered yard exacts b k
+skipped_on yard exacts spans b from code next before after k low below = elim (cases_lt k code) [
+  | inl less ↦ before k low less
+  | inr more ↦ after k more below
+]

@@ -6,7 +6,7 @@ use Rattle.code_table.specs.declared.placement.Placement.{Placement}
 use Rattle.code_table.specs.Placements.{placements}
 use Rattle.plan_rule.specs.declared.literal.Literal.{Literal}
 use Rattle.plan_rule.specs.Boxes.{HasExact}
-use Rattle.plan_rule.specs.Clashes.{MayClash, PlacementsClash}
+use Rattle.plan_rule.specs.Clashes.{PlacementsClash}
 use Rattle.log_checker.specs.declared.exact.Exact.{Exact}
 
 -- the block exists, and the placement is within the limits
@@ -33,7 +33,3 @@ pub record ClashesAt (yard : PlainYard) (f : Exact) (b : ℕ) (p : Placement) : 
 -- one of the exact blocks clashes with another block at a placement
 abbrev pub ClashesWithOne : PlainYard → List Exact → ℕ → Placement → Type 0
 ClashesWithOne yard list b p = Any (λ f. ClashesAt yard f b p) list
-
--- the exact blocks that are on the placement's plate on some of its days
-abbrev pub IsNear : Placement → List Exact → List Exact → Type 0
-IsNear p list near = (f : Exact) → Contains near f ↔ (Contains list f × MayClash f.place p)

@@ -4,10 +4,10 @@ pub mod ExactBlocks
 pub mod Forms
 pub mod Leasts
 pub mod Lines
+pub mod Masks
 pub mod NearPieces
 pub mod Offsets
 pub mod PassedCodes
-pub mod ShutCodes
 pub mod Spans
 pub mod Ties
 pub mod Verdicts

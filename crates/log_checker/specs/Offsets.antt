@@ -1,5 +1,5 @@
 -- Whether two turned footprints are apart, by their offset.
-use Rattle.std.specs.Prelude.{◌≡◌, ℕ, ◌<◌, Some, slice_get, length, All, IfSome, IsTrue, ◌↔◌}
+use Rattle.std.specs.Prelude.{◌≡◌, ℕ, ◌<◌, Some, slice_get, length}
 use Rattle.shape_exact.specs.Yards.{PlainYard}
 use Rattle.shape_exact.specs.declared.block.Block.{Block}
 use Rattle.shape_exact.specs.Shapes.{AreApart, origin, turned}
@@ -8,8 +8,6 @@ use Rattle.code_table.specs.declared.placement.Placement.{Placement}
 use Rattle.plan_rule.specs.Clashes.{place_of}
 use Rattle.log_checker.specs.declared.exact.Exact.{Exact}
 use Rattle.log_checker.specs.declared.offset.Offset.{Offset}
-use Rattle.log_checker.specs.declared.offset.Told.{Told}
-use Rattle.log_checker.specs.declared.offset.Offsets.{Offsets}
 
 -- the blocks and turns exist, and the way is no longer than two plates
 pub record IsOffset (yard : PlainYard) (o : Offset) : Type 0 where
@@ -36,11 +34,3 @@ offset_of f b p = record {
   second_turn = p.turn;
   way = way (place_of f.place) (place_of p);
 }
-
--- what is told of an offset is so
-abbrev pub IsTold : PlainYard → Told → Type 0
-IsTold yard t = IsTrue t.apart ↔ AreSoApart yard t.of
-
--- and so is all that is kept
-abbrev pub AreTold : PlainYard → Offsets → Type 0
-AreTold yard offsets = All (λ o. IfSome o (IsTold yard)) offsets.told.items

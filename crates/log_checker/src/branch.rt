@@ -6,14 +6,14 @@ ghost use Rattle.plan_rule.specs.Yards.{choices};
 ghost use Rattle.refutation_log.specs.Steps.{IsRange};
 ghost use Rattle.log_checker.specs.Claims.{IsClaim, plan_of};
 ghost use Rattle.log_checker.specs.Forms.{HasForm};
-ghost use Rattle.log_checker.specs.ShutCodes.{AreKnown};
+ghost use Rattle.log_checker.specs.Masks.{AreTold};
 ghost use Rattle.log_checker.specs.Verdicts.{TellsCovered};
 
 use crate::cited::spans_of;
 use crate::claim::Claim;
 use crate::cut::cut_of;
 use crate::exact::exact_of;
-use crate::known::Known;
+use crate::mask::Masks;
 use crate::uncovered::first_uncovered;
 use code_table::Codes;
 use plan_rule::PlanBox;
@@ -27,7 +27,7 @@ use std::alloc::Global;
 pub(crate) fn branch_fault(
     alloc: Global,
     codes: &Codes,
-    known: &mut Known,
+    masks: &mut Masks,
     claim: Option<Claim<'_>>,
     earlier: &[Record],
     block: u8,
@@ -36,7 +36,7 @@ pub(crate) fn branch_fault(
     side: &PlanBox,
     cites: &Cites,
 ) -> Result<Option<u32>, NoMemory>
-    requires told { AreKnown codes.now known.old }
+    requires told { AreTold codes.now masks.old }
     requires claim { IsClaim (choices codes.now) claim }
     requires earlier { All (HasForm (choices codes.now)) earlier.now }
     requires block { block < blocks (choices codes.now) }
@@ -46,14 +46,14 @@ pub(crate) fn branch_fault(
     requires cites { All (λ k. k < length earlier.now) cites.now }
     ensures value { IfOk result
         (TellsCovered (choices codes.now) (plan_of claim.entry) earlier.now block lo hi side.now cites.now) }
-    ensures told { AreKnown codes.now known.new }
+    ensures told { AreTold codes.now masks.new }
 {
     let cut = cut_of(codes, claim, side, block);
     let spans = spans_of(alloc, codes, earlier, cites, side, block)?;
     let exacts = exact_of(codes, side);
     Ok(first_uncovered(
         codes,
-        known,
+        masks,
         block,
         lo,
         hi,

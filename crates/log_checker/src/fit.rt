@@ -7,7 +7,7 @@ ghost use Rattle.plan_rule.specs.Yards.{choices};
 ghost use Rattle.log_checker.specs.Claims.{IsClaim, plan_of};
 ghost use Rattle.log_checker.specs.ExactBlocks.{AreExact, IsStanding};
 ghost use Rattle.log_checker.specs.Leasts.{IsFitUpTo, IsLeastFit};
-ghost use Rattle.log_checker.specs.ShutCodes.{AreKnown};
+ghost use Rattle.log_checker.specs.Masks.{AreTold};
 ghost use Rattle.log_checker.specs.PassedCodes.{ArePassed};
 ghost use Rattle.log_checker.specs.Verdicts.{TellsBound};
 
@@ -15,7 +15,7 @@ use crate::base::base;
 use crate::claim::Claim;
 use crate::exact::{Exact, exact_of};
 use crate::free::least_free;
-use crate::known::Known;
+use crate::mask::Masks;
 use crate::passed::Passed;
 use crate::refute::fault;
 use crate::rest::{exact_in, least_in};
@@ -32,14 +32,14 @@ fn up_to(cost: u32, limit: u32) -> Option<u32>
 /// The least own cost of the block's codes that fit the side, where it is at most the limit.
 fn least_fit(
     codes: &Codes,
-    known: &mut Known,
+    masks: &mut Masks,
     passed: &mut Passed,
     side: &PlanBox,
     exacts: &[Exact],
     block: u8,
     limit: u32,
 ) -> Option<u32>
-    requires told { AreKnown codes.now known.old }
+    requires told { AreTold codes.now masks.old }
     requires kept { ArePassed codes.now passed.old }
     requires side { IsBox (choices codes.now) side.now }
     requires exacts { AreExact codes.now side.now exacts.now }
@@ -48,13 +48,13 @@ fn least_fit(
     requires block { block < blocks (choices codes.now) }
     requires among { All (Contains exacts.now) passed.old.exacts.items }
     ensures value { IsLeastFit (choices codes.now) side.now block limit result }
-    ensures told { AreKnown codes.now known.new }
+    ensures told { AreTold codes.now masks.new }
     ensures kept { ArePassed codes.now passed.new }
     ensures among { All (Contains exacts.now) passed.new.exacts.items }
 {
     match exact_in(side, block) {
         Some(code) => up_to(codes.own_cost(block, code), limit),
-        None => least_free(codes, known, passed, exacts, block, limit),
+        None => least_free(codes, masks, passed, exacts, block, limit),
     }
 }
 
@@ -62,16 +62,16 @@ fn least_fit(
 /// sought above what the limit leaves beside the costs found so far and the least own costs of the blocks to come.
 fn fit(
     codes: &Codes,
-    known: &mut Known,
+    masks: &mut Masks,
     passed: &mut Passed,
     side: &PlanBox,
     limit: u32,
 ) -> Option<u32>
-    requires told { AreKnown codes.now known.old }
+    requires told { AreTold codes.now masks.old }
     requires kept { ArePassed codes.now passed.old }
     requires side { IsBox (choices codes.now) side.now }
     ensures value { IsFitUpTo (choices codes.now) side.now limit result }
-    ensures told { AreKnown codes.now known.new }
+    ensures told { AreTold codes.now masks.new }
     ensures kept { ArePassed codes.now passed.new }
 {
     let mut rest = base(codes, side)?;
@@ -82,7 +82,7 @@ fn fit(
     for block in 0..block_count(codes) {
         rest -= least_in(codes, side, block)?;
         let left = limit.checked_sub(sum + rest)?;
-        sum += least_fit(codes, known, passed, side, exacts, block, left)?;
+        sum += least_fit(codes, masks, passed, side, exacts, block, left)?;
     }
     Some(sum)
 }
@@ -100,21 +100,21 @@ fn greatest(claim: Option<Claim<'_>>) -> u32
 /// The fit of the side, where it does not refute the side; None where it does.
 pub(crate) fn fit_fault(
     codes: &Codes,
-    known: &mut Known,
+    masks: &mut Masks,
     passed: &mut Passed,
     claim: Option<Claim<'_>>,
     side: &PlanBox,
 ) -> Option<u32>
-    requires told { AreKnown codes.now known.old }
+    requires told { AreTold codes.now masks.old }
     requires kept { ArePassed codes.now passed.old }
     requires claim { IsClaim (choices codes.now) claim }
     requires side { IsBox (choices codes.now) side.now }
     ensures value { TellsBound (IsFit (choices codes.now) side.now) (choices codes.now) (plan_of claim.entry) side.now result }
-    ensures told { AreKnown codes.now known.new }
+    ensures told { AreTold codes.now masks.new }
     ensures kept { ArePassed codes.now passed.new }
 {
     let _yard = codes.yard();
-    let Some(fit) = fit(codes, known, passed, side, greatest(claim)) else {
+    let Some(fit) = fit(codes, masks, passed, side, greatest(claim)) else {
         return None;
     };
     fault(codes, claim, side, Some(fit))

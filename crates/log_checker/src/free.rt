@@ -6,13 +6,13 @@ ghost use Rattle.plan_rule.specs.Choices.{blocks};
 ghost use Rattle.plan_rule.specs.Yards.{choices};
 ghost use Rattle.log_checker.specs.ExactBlocks.{IsStanding};
 ghost use Rattle.log_checker.specs.Leasts.{IsLeastClear, IsLeastClearBelow, is_better};
-ghost use Rattle.log_checker.specs.ShutCodes.{AreKnown};
+ghost use Rattle.log_checker.specs.Masks.{AreTold};
 ghost use Rattle.log_checker.specs.PassedCodes.{AreHinderedTo, ArePassed};
 
 use crate::block::cost_at;
 use crate::cut::least_from;
 use crate::exact::Exact;
-use crate::known::Known;
+use crate::mask::Masks;
 use crate::passed::Passed;
 use crate::walk::Walk;
 use code_table::{Codes, Stretch};
@@ -31,7 +31,7 @@ fn is_better(cost: u32, best: Option<u32>, limit: u32) -> bool
 /// from `from` on.
 fn with_stretch(
     codes: &Codes,
-    known: &mut Known,
+    masks: &mut Masks,
     exacts: &[Exact],
     block: u8,
     stretch: Stretch,
@@ -39,7 +39,7 @@ fn with_stretch(
     limit: u32,
     best: Option<u32>,
 ) -> Option<u32>
-    requires told { AreKnown codes.now known.old }
+    requires told { AreTold codes.now masks.old }
     requires block { block < blocks (choices codes.now) }
     requires stretch { IsStretch (placements codes.now block) stretch }
     requires end { stretch.place.end < codes.now.days }
@@ -49,7 +49,7 @@ fn with_stretch(
     requires standing { All (IsStanding codes.now) exacts.now }
     requires best { IsLeastClearBelow codes.now exacts.now block from limit best }
     ensures value { IsLeastClearBelow codes.now exacts.now block stretch.hi limit result }
-    ensures told { AreKnown codes.now known.new }
+    ensures told { AreTold codes.now masks.new }
 {
     let cost = cost_at(codes, block, stretch.place.end);
     if !is_better(cost, best, limit) {
@@ -59,7 +59,7 @@ fn with_stretch(
         passed: 0,
         code: from,
     };
-    let found = start.to_clear(codes, known, block, stretch, stretch.hi, exacts, &[]);
+    let found = start.to_clear(codes, masks, block, stretch, stretch.hi, exacts, &[]);
     if found.code < stretch.hi {
         Some(cost)
     } else {
@@ -72,17 +72,17 @@ fn with_stretch(
 #[tactic(auto, using(plan_rule::proofs::CountLaws::counts))]
 pub(crate) fn first_clear(
     codes: &Codes,
-    known: &mut Known,
+    masks: &mut Masks,
     exacts: &[Exact],
     block: u8,
     limit: u32,
 ) -> u32
-    requires told { AreKnown codes.now known.old }
+    requires told { AreTold codes.now masks.old }
     requires block { block < blocks (choices codes.now) }
     requires few { length exacts.now ≤ 32 }
     requires standing { All (IsStanding codes.now) exacts.now }
     ensures hindered { AreHinderedTo codes.now exacts.now block result }
-    ensures told { AreKnown codes.now known.new }
+    ensures told { AreTold codes.now masks.new }
 {
     let count = codes.count(block);
     let mut code = 0;
@@ -92,7 +92,7 @@ pub(crate) fn first_clear(
             return code;
         }
         let start = Walk { passed: 0, code };
-        let found = start.to_clear(codes, known, block, stretch, stretch.hi, exacts, &[]);
+        let found = start.to_clear(codes, masks, block, stretch, stretch.hi, exacts, &[]);
         if found.code < stretch.hi {
             return found.code;
         }
@@ -109,20 +109,20 @@ pub(crate) fn first_clear(
 #[tactic(auto, using(plan_rule::proofs::CountLaws::counts))]
 pub(crate) fn least_free(
     codes: &Codes,
-    known: &mut Known,
+    masks: &mut Masks,
     passed: &mut Passed,
     exacts: &[Exact],
     block: u8,
     limit: u32,
 ) -> Option<u32>
-    requires told { AreKnown codes.now known.old }
+    requires told { AreTold codes.now masks.old }
     requires kept { ArePassed codes.now passed.old }
     requires among { All (Contains exacts.now) passed.old.exacts.items }
     requires block { block < blocks (choices codes.now) }
     requires few { length exacts.now ≤ 32 }
     requires standing { All (IsStanding codes.now) exacts.now }
     ensures value { IsLeastClear codes.now exacts.now block limit result }
-    ensures told { AreKnown codes.now known.new }
+    ensures told { AreTold codes.now masks.new }
     ensures kept { ArePassed codes.now passed.new }
     ensures among { All (Contains exacts.now) passed.new.exacts.items }
 {
@@ -130,14 +130,14 @@ pub(crate) fn least_free(
     let least = codes.least_cost(block)?;
     let count = codes.count(block);
     let mut best = None;
-    let mut code = passed.count(codes, known, exacts, block, limit);
+    let mut code = passed.count(codes, masks, exacts, block, limit);
     while code < count {
         let stretch = codes.stretch(block, code);
         let floor = least.max(least_from(codes, block, stretch.place.start));
         if !is_better(floor, best, limit) {
             return best;
         }
-        best = with_stretch(codes, known, exacts, block, stretch, code, limit, best);
+        best = with_stretch(codes, masks, exacts, block, stretch, code, limit, best);
         code = stretch.hi;
     }
     best

@@ -7,9 +7,9 @@
 //! and ties cover (`cited`, `cut`, `ties`, `span`), and walks over the others (`walk`) beside what stands near (`exact`,
 //! `near`). The bounds are `base`, `rest`, `fit` with `free`, and `energy` with `window`; `refute` says when one refutes.
 //!
-//! From record to record three things are kept: whether turned footprints at an offset are apart (`offset`), of each stretch
-//! how many of its first codes are hindered beside exact blocks that a side has again (`shut`), both in `known`, and the same
-//! of each block's first codes (`passed`).
+//! From record to record two things are kept: which codes of a stretch clash with an exact block, whatever their days (`mask`,
+//! of which a walk is given a `part`; whether turned footprints are apart says `offset`), and of each block how many of its
+//! first codes are hindered beside exact blocks that a side has again (`passed`).
 #![tactic(auto)]
 
 mod base;
@@ -24,13 +24,13 @@ mod fit;
 mod form;
 mod free;
 mod judge;
-mod known;
+mod mask;
 mod near;
 mod offset;
+mod part;
 mod passed;
 mod refute;
 mod rest;
-mod shut;
 mod span;
 mod steps;
 #[cfg(test)]

@@ -4,12 +4,12 @@ ghost use Rattle.shape_exact.specs.Yards.{PlainYard};
 ghost use Rattle.plan_rule.specs.Choices.{blocks};
 ghost use Rattle.plan_rule.specs.Yards.{choices};
 ghost use Rattle.log_checker.specs.ExactBlocks.{IsStanding};
-ghost use Rattle.log_checker.specs.ShutCodes.{AreKnown};
+ghost use Rattle.log_checker.specs.Masks.{AreTold};
 ghost use Rattle.log_checker.specs.PassedCodes.{ArePassed, AreHinderedTo};
 
 use crate::exact::{Exact, are_in, has};
 use crate::free::first_clear;
-use crate::known::Known;
+use crate::mask::Masks;
 use arrayvec::ArrayVec;
 use code_table::Codes;
 use plan_rule::block_count;
@@ -86,12 +86,12 @@ impl Passed {
     pub(crate) fn count(
         &mut self,
         codes: &Codes,
-        known: &mut Known,
+        masks: &mut Masks,
         exacts: &[Exact],
         block: u8,
         limit: u32,
     ) -> u32
-        requires told { AreKnown codes.now known.old }
+        requires told { AreTold codes.now masks.old }
         requires kept { ArePassed codes.now self.old }
         requires among { All (Contains exacts.now) self.old.exacts.items }
         requires standing { All (IsStanding codes.now) exacts.now }
@@ -99,14 +99,14 @@ impl Passed {
         ensures hindered { AreHinderedTo codes.now exacts.now block result }
         ensures among { All (Contains exacts.now) self.new.exacts.items }
         ensures kept { ArePassed codes.now self.new }
-        ensures told { AreKnown codes.now known.new }
+        ensures told { AreTold codes.now masks.new }
     {
         let _count = block_count(codes);
         let at = usize::from(block);
         if self.walked[at] {
             return self.counts[at];
         }
-        let count = first_clear(codes, known, self.exacts.as_slice(), block, limit);
+        let count = first_clear(codes, masks, self.exacts.as_slice(), block, limit);
         self.counts[at] = count;
         self.walked[at] = true;
         count

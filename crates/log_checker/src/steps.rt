@@ -4,7 +4,7 @@ ghost use Rattle.plan_rule.specs.Yards.{choices};
 ghost use Rattle.refutation_log.specs.Steps.{IsStep};
 ghost use Rattle.log_checker.specs.Claims.{IsClaim, plan_of};
 ghost use Rattle.log_checker.specs.Forms.{HasForm};
-ghost use Rattle.log_checker.specs.ShutCodes.{AreKnown};
+ghost use Rattle.log_checker.specs.Masks.{AreTold};
 ghost use Rattle.log_checker.specs.PassedCodes.{ArePassed};
 ghost use Rattle.log_checker.specs.Verdicts.{AreStepsBefore, IsFault, IsFirst, IsFirstFault};
 
@@ -14,7 +14,7 @@ use crate::claim::Claim;
 use crate::energy::energy_fault;
 use crate::fit::fit_fault;
 use crate::form::has_form;
-use crate::known::Known;
+use crate::mask::Masks;
 use crate::passed::Passed;
 use code_table::Codes;
 use refutation_log::{Cites, Record};
@@ -37,13 +37,13 @@ fn first_late(cites: &Cites, step: u64) -> Option<u64>
 fn fault_of(
     alloc: Global,
     codes: &Codes,
-    known: &mut Known,
+    masks: &mut Masks,
     passed: &mut Passed,
     claim: Option<Claim<'_>>,
     earlier: &[Record],
     entry: &Record,
 ) -> Result<Option<Refused>, NoMemory>
-    requires told { AreKnown codes.now known.old }
+    requires told { AreTold codes.now masks.old }
     requires kept { ArePassed codes.now passed.old }
     requires claim { IsClaim (choices codes.now) claim }
     requires earlier { All (HasForm (choices codes.now)) earlier.now }
@@ -51,7 +51,7 @@ fn fault_of(
     ensures value { IfOk result (λ found. MatchOption found
         (IsStep (choices codes.now) (plan_of claim.entry) earlier.now entry.now)
         (IsFault (choices codes.now) (plan_of claim.entry) earlier.now entry.now)) }
-    ensures told { AreKnown codes.now known.new }
+    ensures told { AreTold codes.now masks.new }
     ensures kept { ArePassed codes.now passed.new }
 {
     let step = earlier.len() as u64;
@@ -70,13 +70,13 @@ fn fault_of(
                 return Ok(Some(Refused::BadCite(step, cite)));
             }
             match branch_fault(
-                alloc, codes, known, claim, earlier, *block, *lo, *hi, side, cites,
+                alloc, codes, masks, claim, earlier, *block, *lo, *hi, side, cites,
             )? {
                 Some(code) => Ok(Some(Refused::Uncovered(step, code))),
                 None => Ok(None),
             }
         }
-        Record::Fit { side } => match fit_fault(codes, known, passed, claim, side) {
+        Record::Fit { side } => match fit_fault(codes, masks, passed, claim, side) {
             Some(bound) => Ok(Some(Refused::BoundLow(step, bound))),
             None => Ok(None),
         },
@@ -102,13 +102,13 @@ pub(crate) fn first_fault(
         (AreStepsBefore (choices codes.now) (plan_of claim.entry) records.now (length records.now))
         (IsFirstFault (choices codes.now) (plan_of claim.entry) records.now)) }
 {
-    let mut known = Known::new(alloc)?;
+    let mut masks = Masks::new(alloc)?;
     let mut passed = Passed::new();
     for i in 0..records.len() {
         if let Some(refused) = fault_of(
             alloc,
             codes,
-            &mut known,
+            &mut masks,
             &mut passed,
             claim,
             &records[..i],

@@ -4,13 +4,13 @@ ghost use Rattle.std.specs.List.Sorted.{IsNonDecreasingBy};
 ghost use Rattle.plan_rule.specs.Choices.{blocks, count};
 ghost use Rattle.plan_rule.specs.Yards.{choices};
 ghost use Rattle.log_checker.specs.ExactBlocks.{IsStanding};
-ghost use Rattle.log_checker.specs.ShutCodes.{AreKnown};
+ghost use Rattle.log_checker.specs.Masks.{AreTold};
 ghost use Rattle.log_checker.specs.Walks.{IsFirstWithout, IsSettled};
 
 use crate::block::cost_at;
 use crate::cut::Cut;
 use crate::exact::Exact;
-use crate::known::Known;
+use crate::mask::Masks;
 use crate::span::Span;
 use crate::walk::Walk;
 use code_table::Codes;
@@ -21,7 +21,7 @@ use code_table::Codes;
 #[tactic(auto, using(plan_rule::proofs::CountLaws::counts))]
 pub(crate) fn first_uncovered(
     codes: &Codes,
-    known: &mut Known,
+    masks: &mut Masks,
     block: u8,
     lo: u32,
     hi: u32,
@@ -29,7 +29,7 @@ pub(crate) fn first_uncovered(
     exacts: &[Exact],
     spans: &[Span],
 ) -> Option<u32>
-    requires told { AreKnown codes.now known.old }
+    requires told { AreTold codes.now masks.old }
     requires block { block < blocks (choices codes.now) }
     requires range { hi ≤ count (choices codes.now) block }
     requires few { length exacts.now ≤ 32 }
@@ -38,7 +38,7 @@ pub(crate) fn first_uncovered(
     ensures value { MatchOption result
         ((code : ℕ) → lo ≤ code → code < hi → IsSettled codes.now block cut exacts.now spans.now code)
         (λ code. IsFirstWithout (IsSettled codes.now block cut exacts.now spans.now) lo hi code) }
-    ensures told { AreKnown codes.now known.new }
+    ensures told { AreTold codes.now masks.new }
 {
     let start = Walk {
         passed: 0,
@@ -52,7 +52,7 @@ pub(crate) fn first_uncovered(
         }
         let end = stretch.hi.min(hi);
         let kept = cut.keeps(cost_at(codes, block, stretch.place.end), end);
-        walk = walk.to_clear(codes, known, block, stretch, kept, exacts, spans);
+        walk = walk.to_clear(codes, masks, block, stretch, kept, exacts, spans);
         if walk.code < kept {
             return Some(walk.code);
         }

@@ -1,22 +1,20 @@
 //! Walks over a block's codes, beside spans of codes.
-ghost use Rattle.std.specs.Prelude.{◌≡◌, ◌+◌, ◌^◌, ◌<◌, ◌≤◌, ◌⊎◌, ℕ, All, length};
+ghost use Rattle.std.specs.Prelude.{◌≡◌, ◌+◌, ◌^◌, ◌<◌, ◌≤◌, ◌⊎◌, ℕ, ◌↔◌, All, IsTrue, length};
 ghost use Rattle.std.specs.List.Sorted.{IsNonDecreasingBy};
 ghost use Rattle.code_table.specs.Placements.{placements};
 ghost use Rattle.code_table.specs.Stretches.{IsStretch};
 ghost use Rattle.plan_rule.specs.Choices.{blocks};
 ghost use Rattle.plan_rule.specs.Yards.{choices};
-ghost use Rattle.log_checker.specs.ExactBlocks.{IsNear, IsStanding};
-ghost use Rattle.log_checker.specs.ShutCodes.{AreHinderedFrom, AreKnown};
+ghost use Rattle.log_checker.specs.ExactBlocks.{IsStanding};
+ghost use Rattle.log_checker.specs.Masks.{AreTold, IsPart};
 ghost use Rattle.log_checker.specs.NearPieces.{AreNear};
-ghost use Rattle.log_checker.specs.Offsets.{AreTold};
 ghost use Rattle.log_checker.specs.Spans.{InOne};
 ghost use Rattle.log_checker.specs.Walks.{ArePassed, IsHindered};
 
 use crate::exact::Exact;
-use crate::known::Known;
-use crate::near::Near;
-use crate::offset::Offsets;
-use crate::shut::Shut;
+use crate::mask::Masks;
+use crate::near::{meets_one, pieces_near};
+use crate::part::Part;
 use crate::span::Span;
 use code_table::{Codes, Stretch};
 
@@ -25,6 +23,34 @@ use code_table::{Codes, Stretch};
 pub(crate) struct Walk {
     pub passed: usize,
     pub code: u32,
+}
+
+/// Whether the block clashes with an exact block at a code of the part, or meets a piece there.
+fn is_hindered(
+    codes: &Codes,
+    block: u8,
+    stretch: Stretch,
+    part: Part,
+    pieces: &[u8],
+    exacts: &[Exact],
+    code: u32,
+) -> bool
+    requires block { block < length codes.now.blocks }
+    requires stretch { IsStretch (placements codes.now block) stretch }
+    requires part { IsPart codes.now exacts.now block stretch part }
+    requires pieces { AreNear codes.now stretch.place pieces.now }
+    requires from { part.lo ≤ code }
+    requires to { code < part.hi }
+    ensures { IsTrue result ↔ IsHindered codes.now exacts.now block code }
+{
+    if part.has(code) {
+        return true;
+    }
+    if pieces.is_empty() {
+        return false;
+    }
+    let place = codes.place_in(block, stretch, code);
+    meets_one(codes, pieces, block, place)
 }
 
 impl Walk {
@@ -54,14 +80,14 @@ impl Walk {
     pub(crate) fn to_clear(
         self,
         codes: &Codes,
-        known: &mut Known,
+        masks: &mut Masks,
         block: u8,
         stretch: Stretch,
         to: u32,
         exacts: &[Exact],
         spans: &[Span],
     ) -> Walk
-        requires told { AreKnown codes.now known.old }
+        requires told { AreTold codes.now masks.old }
         requires block { block < length codes.now.blocks }
         requires stretch { IsStretch (placements codes.now block) stretch }
         requires from { stretch.lo ≤ self.code }
@@ -79,104 +105,70 @@ impl Walk {
             → InOne spans.now k ⊎ IsHindered codes.now exacts.now block k }
         ensures left { InOne spans.now result.code → ⊥ }
         ensures clear { result.code < to → IsHindered codes.now exacts.now block result.code → ⊥ }
-        ensures told { AreKnown codes.now known.new }
+        ensures told { AreTold codes.now masks.new }
     {
         if self.code >= to {
             return self;
         }
-        let shut = known.shuts.shut_to(block, stretch.lo, exacts);
-        let walk = self.on_from(shut, spans);
-        if walk.code >= to {
-            return walk;
-        }
-        let near = Near::of(codes, exacts, stretch.place);
-        let asked = Asked { walk, shut };
-        let asked = asked.on_to_clear(
-            codes,
-            &mut known.offsets,
-            block,
-            stretch,
-            to,
-            &near,
-            exacts,
-            spans,
-        );
-        if shut < asked.shut {
-            known.shuts.keep(Shut {
+        let pieces = pieces_near(codes, stretch.place);
+        let mut walk = self;
+        while walk.code < to {
+            let part = masks.part(codes, block, stretch, walk.code, exacts);
+            let end = part.hi.min(to);
+            walk = walk.on_in(
+                codes,
                 block,
-                lo: stretch.lo,
-                hi: asked.shut.min(stretch.hi),
-                exacts: near.exacts,
-            });
+                stretch,
+                part,
+                end,
+                pieces.as_slice(),
+                exacts,
+                spans,
+            );
+            if walk.code < end {
+                return walk;
+            }
         }
-        asked.walk
+        walk
     }
-}
 
-/// A walk over the codes of a stretch, and up to which code, without it, those from its first one on are known to be
-/// hindered.
-#[derive(Clone, Copy)]
-struct Asked {
-    walk: Walk,
-    shut: u32,
-}
-
-/// Up to where the codes are shut once this one is found hindered: past it, where they were shut up to it.
-fn shut_past(shut: u32, code: u32) -> u32
-    requires { code < 4294967295 }
-    ensures next { code ≡ shut → result ≡ code + 1 }
-    ensures other { (code ≡ shut → ⊥) → result ≡ shut }
-{
-    if code == shut { code + 1 } else { shut }
-}
-
-impl Asked {
-    /// On to the first code that is in no span and at which nothing that is near hinders the block. Codes from `to` on are
-    /// not asked.
-    fn on_to_clear(
+    /// The same in a part of the stretch, beside the pieces that are near.
+    fn on_in(
         self,
         codes: &Codes,
-        offsets: &mut Offsets,
         block: u8,
         stretch: Stretch,
+        part: Part,
         to: u32,
-        near: &Near,
+        pieces: &[u8],
         exacts: &[Exact],
         spans: &[Span],
-    ) -> Asked
-        requires told { AreTold codes.now offsets.old }
+    ) -> Walk
         requires block { block < length codes.now.blocks }
         requires stretch { IsStretch (placements codes.now block) stretch }
-        requires from { stretch.lo ≤ self.walk.code }
-        requires to { to ≤ stretch.hi }
-        requires near { IsNear stretch.place exacts.now near.now.exacts.items }
-        requires pieces { AreNear codes.now stretch.place near.now.pieces.items }
-        requires standing { All (IsStanding codes.now) exacts.now }
+        requires part { IsPart codes.now exacts.now block stretch part }
+        requires pieces { AreNear codes.now stretch.place pieces.now }
+        requires from { part.lo ≤ self.code }
+        requires to { to ≤ part.hi }
         requires ascending { IsNonDecreasingBy (λ s. s.lo) spans.now }
-        requires within { self.walk.passed ≤ length spans.now }
-        requires passed { ArePassed spans.now self.walk.passed self.walk.code }
-        requires left { InOne spans.now self.walk.code → ⊥ }
-        requires shut { AreHinderedFrom codes.now exacts.now block stretch.lo self.shut }
-        ensures within { result.walk.passed ≤ length spans.now }
-        ensures passed { ArePassed spans.now result.walk.passed result.walk.code }
-        ensures forward { self.walk.code ≤ result.walk.code }
-        ensures skipped { (k : ℕ) → self.walk.code ≤ k → k < result.walk.code
+        requires within { self.passed ≤ length spans.now }
+        requires passed { ArePassed spans.now self.passed self.code }
+        requires left { InOne spans.now self.code → ⊥ }
+        ensures within { result.passed ≤ length spans.now }
+        ensures passed { ArePassed spans.now result.passed result.code }
+        ensures forward { self.code ≤ result.code }
+        ensures skipped { (k : ℕ) → self.code ≤ k → k < result.code
             → InOne spans.now k ⊎ IsHindered codes.now exacts.now block k }
-        ensures left { InOne spans.now result.walk.code → ⊥ }
-        ensures clear { result.walk.code < to → IsHindered codes.now exacts.now block result.walk.code → ⊥ }
-        ensures shut { AreHinderedFrom codes.now exacts.now block stretch.lo result.shut }
-        ensures told { AreTold codes.now offsets.new }
+        ensures left { InOne spans.now result.code → ⊥ }
+        ensures clear { result.code < to → IsHindered codes.now exacts.now block result.code → ⊥ }
     {
-        let mut walk = self.walk;
-        let mut shut = self.shut;
+        let mut walk = self;
         while walk.code < to {
-            let place = codes.place_in(block, stretch, walk.code);
-            if !near.hinders(codes, offsets, block, place) {
-                return Asked { walk, shut };
+            if !is_hindered(codes, block, stretch, part, pieces, exacts, walk.code) {
+                return walk;
             }
-            shut = shut_past(shut, walk.code);
             walk = walk.on_from(walk.code + 1, spans);
         }
-        Asked { walk, shut }
+        walk
     }
 }

@@ -6,7 +6,7 @@ ghost use Rattle.log_checker.specs.Forms.{HasForm};
 
 use super::branch_fault;
 use crate::form::has_form;
-use crate::known::Known;
+use crate::mask::Masks;
 use crate::tests::yards::has_block;
 use code_table::{Codes, can_be_planned};
 use refutation_log::{Record, read_log};
@@ -108,9 +108,9 @@ fn left(
             cites,
         } => {
             assert!(rt; are_below(cites.list(), earlier.len()));
-            let mut known = Known::new(alloc)?;
+            let mut masks = Masks::new(alloc)?;
             branch_fault(
-                alloc, codes, &mut known, None, earlier, *block, *lo, *hi, side, cites,
+                alloc, codes, &mut masks, None, earlier, *block, *lo, *hi, side, cites,
             )
         }
         Record::Fit { .. } => Ok(None),

@@ -1,5 +1,5 @@
 use Rattle.std.proofs.Common.{◌-◌}
-use Rattle.log_checker.specs.ShutCodes.{AreKnown}
+use Rattle.log_checker.specs.Masks.{AreTold}
 use Rattle.log_checker.specs.PassedCodes.{AreHinderedTo}
 use Rattle.log_checker.proofs.free.first_clear.Given as goal
 
@@ -7,7 +7,7 @@ use Rattle.log_checker.proofs.free.first_clear.Given as goal
 abbrev pub invariant-loop-code : goal.invariant-loop-code
 invariant-loop-code l = record {
   hindered : AreHinderedTo l.codes l.exacts l.block l.code;
-  told : AreKnown l.codes l.known;
+  told : AreTold l.codes l.masks;
 }
 
 abbrev pub decreases-loop-code : goal.decreases-loop-code

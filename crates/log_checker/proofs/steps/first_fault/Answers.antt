@@ -34,6 +34,6 @@ loop-i-preserved c =
 pub loop-i-init : goal.loop-i-init
 loop-i-init c = record {
   steps = λ i below. absurd (omega arith);
-  told = c.in_ok-known.ensures c.args.codes.now;
+  told = c.in_ok-masks.ensures c.args.codes.now;
   kept = c.new-passed.ensures c.args.codes.now;
 }

@@ -1,6 +1,6 @@
 use Rattle.plan_rule.specs.Yards.{choices}
 use Rattle.log_checker.specs.Claims.{plan_of}
-use Rattle.log_checker.specs.ShutCodes.{AreKnown}
+use Rattle.log_checker.specs.Masks.{AreTold}
 use Rattle.log_checker.specs.PassedCodes.{ArePassed}
 use Rattle.log_checker.specs.Verdicts.{AreStepsBefore}
 use Rattle.log_checker.proofs.steps.first_fault.Given as goal
@@ -9,6 +9,6 @@ use Rattle.log_checker.proofs.steps.first_fault.Given as goal
 abbrev pub invariant-loop-i : goal.invariant-loop-i
 invariant-loop-i l = record {
   steps : AreStepsBefore (choices l.codes) (plan_of l.claim) l.records l.i;
-  told : AreKnown l.codes l.known;
+  told : AreTold l.codes l.masks;
   kept : ArePassed l.codes l.passed;
 }

@@ -1,36 +1,27 @@
 use Rattle.std.proofs.Common.{sym, subst, arith}
-use Rattle.log_checker.proofs.ShutLaws.{shut_less, shut_near, skipped_on, skipped_shut}
-use Rattle.log_checker.specs.ShutCodes.{AreKnown}
+use Rattle.log_checker.specs.NearPieces.{AreNear}
+use Rattle.log_checker.proofs.WalkLaws.{skipped_on}
 use Rattle.log_checker.proofs.walk.Walk.to_clear.Goals as goal
-use Rattle.log_checker.proofs.walk.Walk.to_clear.Goals.{then-shut-asked, else-shut-asked}
 
-pub returns-then-walk-to-clause-skipped : goal.returns-then-walk-to-clause-skipped
-returns-then-walk-to-clause-skipped c =
-    skipped_shut c.args.codes.now c.args.exacts.now c.args.spans.now c.args.block c.args.stretch.lo c.args.self.code c.shut_to-shut.result
-    c.on_from-walk.result.code c.requires.from (c.shut_to-shut.ensures c.args.codes.now c.requires.told.1) c.on_from-walk.ensures.skipped
+pub on_in-walk-requires-clause-pieces : goal.on_in-walk-requires-clause-pieces
+on_in-walk-requires-clause-pieces c =
+    subst (AreNear c.args.codes.now c.args.stretch.place) (sym c.as_slice.ensures.value) c.pieces_near-pieces.ensures
 
-pub on_to_clear-asked-requires-clause-shut : goal.on_to_clear-asked-requires-clause-shut
-on_to_clear-asked-requires-clause-shut c = c.shut_to-shut.ensures c.args.codes.now c.requires.told.1
+pub returns-then-walk-end-clause-skipped : goal.returns-then-walk-end-clause-skipped
+returns-then-walk-end-clause-skipped c =
+    skipped_on c.args.codes.now c.args.exacts.now c.args.spans.now c.args.block c.args.self.code c.loop-walk.walk.code c.on_in-walk.result.code
+    c.loop-walk.invariant.skipped c.on_in-walk.ensures.skipped
 
-pub returns-clause-skipped : goal.returns-clause-skipped
-returns-clause-skipped c =
-    skipped_on c.args.codes.now c.args.exacts.now c.args.spans.now c.args.block c.args.self.code c.on_from-walk.result.code
-    c.on_to_clear-asked.result.walk.code
-    (skipped_shut c.args.codes.now c.args.exacts.now c.args.spans.now c.args.block c.args.stretch.lo c.args.self.code c.shut_to-shut.result
-    c.on_from-walk.result.code c.requires.from (c.shut_to-shut.ensures c.args.codes.now c.requires.told.1) c.on_from-walk.ensures.skipped)
-    c.on_to_clear-asked.ensures.skipped
-
-pub returns-clause-told : goal.returns-clause-told
-returns-clause-told c = elim c.if-shut-asked.branch [
-  | then-shut-asked w ↦
-      let most = w.min.ensures in
-      subst (AreKnown c.args.codes.now) (sym w.known-is) (
-        c.on_to_clear-asked.ensures.told,
-        w.keep.ensures c.args.codes.now c.requires.told.1
-            (shut_near c.args.codes.now c.args.exacts.now c.of-near.result.exacts.items c.args.block w.min.result c.args.stretch c.requires.stretch
-            c.of-near.ensures.exacts (omega arith)
-            (shut_less c.args.codes.now c.args.exacts.now c.args.block c.args.stretch.lo c.on_to_clear-asked.result.shut w.min.result (omega arith)
-            c.on_to_clear-asked.ensures.shut)),
-      )
-  | else-shut-asked w ↦ subst (AreKnown c.args.codes.now) (sym w.known-is) (c.on_to_clear-asked.ensures.told, c.requires.told.1)
-]
+pub loop-walk-preserved : goal.loop-walk-preserved
+loop-walk-preserved c =
+    let forward = c.loop-walk.invariant.forward in
+    let on = c.on_in-walk.ensures.forward in
+    record {
+      forward = omega arith;
+      within = c.on_in-walk.ensures.within;
+      passed = c.on_in-walk.ensures.passed;
+      left = c.on_in-walk.ensures.left;
+      told = c.part-part.ensures.told;
+      skipped = skipped_on c.args.codes.now c.args.exacts.now c.args.spans.now c.args.block c.args.self.code c.loop-walk.walk.code
+          c.on_in-walk.result.code c.loop-walk.invariant.skipped c.on_in-walk.ensures.skipped;
+    }

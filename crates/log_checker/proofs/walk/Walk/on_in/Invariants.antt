@@ -1,19 +1,15 @@
 use Rattle.std.proofs.Common.{ℕ, ◌-◌, ◌<◌, ◌≤◌, ◌⊎◌, length}
-use Rattle.log_checker.specs.Offsets.{AreTold}
-use Rattle.log_checker.specs.ShutCodes.{AreHinderedFrom}
 use Rattle.log_checker.specs.Spans.{InOne}
 use Rattle.log_checker.specs.Walks.{ArePassed, IsHindered}
-use Rattle.log_checker.proofs.walk.Asked.on_to_clear.Given as goal
+use Rattle.log_checker.proofs.walk.Walk.on_in.Given as goal
 
 abbrev pub invariant-loop-walk : goal.invariant-loop-walk
 invariant-loop-walk l = record {
-  forward : l.fn.self.walk.code ≤ l.walk.code;
+  forward : l.fn.self.code ≤ l.walk.code;
   within : l.walk.passed ≤ length l.spans;
   passed : ArePassed l.spans l.walk.passed l.walk.code;
   left : InOne l.spans l.walk.code → ⊥;
-  told : AreTold l.codes l.offsets;
-  shut : AreHinderedFrom l.codes l.exacts l.block l.stretch.lo l.shut;
-  skipped : (k : ℕ) → l.fn.self.walk.code ≤ k → k < l.walk.code → InOne l.spans k ⊎ IsHindered l.codes l.exacts l.block k;
+  skipped : (k : ℕ) → l.fn.self.code ≤ k → k < l.walk.code → InOne l.spans k ⊎ IsHindered l.codes l.exacts l.block k;
 }
 
 abbrev pub decreases-loop-walk : goal.decreases-loop-walk

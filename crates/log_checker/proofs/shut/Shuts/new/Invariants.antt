@@ -1,8 +1,0 @@
-use Rattle.std.proofs.Common.{All, IfSome}
-use Rattle.shape_exact.specs.Yards.{PlainYard}
-use Rattle.log_checker.specs.ShutCodes.{IsShut}
-use Rattle.log_checker.proofs.shut.Shuts.new.Given as goal
-
--- nothing is kept
-abbrev pub invariant-loop : goal.invariant-loop
-invariant-loop l = (yard : PlainYard) → All (λ o. IfSome o (IsShut yard)) l.found.items
