@@ -1,6 +1,8 @@
 -- What the steps of a search tell of one another.
-use Rattle.std.proofs.Common.{◌≡◌, ℕ, List, Option, Some, None, Bool, subst}
-use Rattle.std.specs.Prelude.{MatchOption}
+use Rattle.std.proofs.Common.{◌≡◌, ℕ, ◌+◌, ◌^◌, ◌<◌, ◌≤◌, ◌++◌, List, Option, Some, None, Bool, true, refl, sym, subst, inl, inr, arith, length, get_or}
+use Rattle.std.specs.Prelude.{MatchOption, ◌||◌}
+use Rattle.std.specs.List.{All, AllWithin, Contains}
+use Rattle.std.proofs.lemmas.List.Elements.{AllWithin-more, at_read}
 use Rattle.std.proofs.lemmas.Option.{none-some, same_Some}
 use Rattle.plan_rule.specs.declared.literal.Literal.{Literal}
 use Rattle.plan_rule.specs.declared.job.Job.{Job}
@@ -13,8 +15,10 @@ use Rattle.branch_kernel.specs.States.{State}
 use Rattle.branch_kernel.specs.Boxes.{kept}
 use Rattle.branch_kernel.specs.Nodes.{IsOpenBox}
 use Rattle.branch_kernel.specs.Growth.{Grows}
+use Rattle.branch_kernel.specs.Shows.{IsHandledBy}
 use Rattle.branch_kernel.specs.Covers.{CoversCode, IsCoverage}
 use Rattle.branch_kernel.proofs.GrowthLaws.{cited_from, handled_from}
+use Rattle.branch_kernel.proofs.WalkLaws.{settle_more}
 
 pub match_some : {T : Type 0} (o : Option T) (A : Type 0) (F : T → Type 0) (x : T) → MatchOption o A F → o ≡ Some x → F x
 match_some None A F x h e = absurd (none-some x e)
@@ -41,3 +45,28 @@ pub coverage_from : (c : Choices) (job : Job) (start middle now : State) (side :
     → IsCoverage c job middle now side needs b code r → IsCoverage c job start now side needs b code r
 coverage_from c job start middle now side needs b code (Done r) g h = covers_from c start middle now side needs b code r g h
 coverage_from c job start middle now side needs b code (Open child) g h = h
+
+-- the next code of a list is settled, beside those before it
+pub handled_next : (c : Choices) (start s s' : State) (tie more_tie : Bool) (side : List Literal) (needs needs' : ℕ → Bool) (cites cites' more : List ℕ) (b at code : ℕ) (list : List ℕ) → start.bar < 2 ^ 64
+    → Grows c start s → Grows c s s' → cites' ≡ cites ++ more → ((x : ℕ) → needs x ≡ true → needs' x ≡ true) → at < length list → code ≡ get_or list at code
+    → AllWithin (IsHandledBy c start s tie side needs cites b) list 0 at → IsHandledBy c s s' more_tie side needs' more b code
+    → AllWithin (IsHandledBy c start s' (tie || more_tie) side needs' cites' b) list 0 (at + 1)
+handled_next c start s s' tie more_tie side needs needs' cites cites' more b at code list fits first g e grow exists is before now =
+    AllWithin-more (IsHandledBy c start s' (tie || more_tie) side needs' cites' b) list 0 at
+    (λ k d low high. settle_more c start s s' tie more_tie side needs needs' cites cites' more b (λ x. x ≡ get_or list k d) (λ x. ⊥) fits first g e grow
+    (λ x same. subst (IsHandledBy c start s tie side needs cites b) (sym same) (before k d low high)) (λ x none. absurd none) (get_or list k d) (inl refl))
+    (at_read list (IsHandledBy c start s' (tie || more_tie) side needs' cites' b) at code exists is
+    (settle_more c start s s' tie more_tie side needs needs' cites cites' more b (λ x. ⊥) (λ x. x ≡ code) fits first g e grow
+    (λ x none. absurd none) (λ x same. subst (IsHandledBy c s s' more_tie side needs' more b) (sym same) now) code (inr refl)))
+
+-- each code of a range is settled, where each code of a list is that has them all
+pub handled_all : (c : Choices) (start s : State) (tie : Bool) (side : List Literal) (needs : ℕ → Bool) (cites : List ℕ) (b lo hi n : ℕ) (list : List ℕ)
+    → ((code : ℕ) → lo ≤ code → code < hi → Contains list code) → length list ≤ n → AllWithin (IsHandledBy c start s tie side needs cites b) list 0 n
+    → (x : ℕ) → lo ≤ x → x < hi → IsHandledBy c start s tie side needs cites b x
+handled_all c start s tie side needs cites b lo hi n list each all within x low high =
+    let (k, exists, is) = each x low high in subst (IsHandledBy c start s tie side needs cites b) is (within k x (omega arith) (omega arith))
+
+-- a code that stands in a list of codes of a range is in the range
+pub listed : (list : List ℕ) (range : Literal) (at code : ℕ) → All (λ code. (range.lo ≤ code) × (code < range.hi)) list → at < length list → code ≡ get_or list at code
+    → (range.lo ≤ code) × (code < range.hi)
+listed list range at code inside exists is = subst (λ code. (range.lo ≤ code) × (code < range.hi)) (sym is) (inside at code exists)

@@ -16,7 +16,7 @@ use std::alloc::Global;
 use tardiness_bounds::{Bound, Frontier, YardTables, base};
 
 /// The exact literals of a box as a frontier.
-fn front_of<'a>(
+pub(crate) fn front_of<'a>(
     alloc: Global,
     tables: &'a YardTables<'a>,
     part: &PlanBox,
@@ -60,16 +60,11 @@ fn children(front: &Frontier<'_>, range: Literal, most: u32, enough: u64) -> u64
     if !front.can_push(range.block, range.lo) {
         return 0;
     }
-    let mut code = range.lo;
-    for _ in range.lo..range.hi {
-        let Some(next) = front.next_free(range.block, code, most) else {
-            break;
-        };
-        if next >= range.hi || count > enough {
+    for code in front.free_codes(range.block, range.lo, most) {
+        if code >= range.hi || count > enough {
             break;
         }
         count = count.saturating_add(1);
-        code = next + 1;
     }
     count
 }
@@ -86,7 +81,7 @@ fn between(levels: &[Level], above: u32, most: u32) -> u64 {
 }
 
 /// How much a block may cost at most, where the others cost what the frontier leaves them.
-fn slack_of(codes: &Codes, front: &Frontier<'_>, most: u32, block: u8) -> u32
+pub(crate) fn slack_of(codes: &Codes, front: &Frontier<'_>, most: u32, block: u8) -> u32
     requires yard { front.now.yard ≡ codes.now }
     requires block { block < blocks (choices codes.now) }
 {

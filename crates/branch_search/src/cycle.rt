@@ -17,6 +17,7 @@ use crate::choose::choose;
 use crate::covering::cover_known;
 use crate::fits::fitted;
 use crate::open::{first_open, open_or};
+use crate::order::order_of;
 use crate::own::{Settled, cites_of, note, own_code};
 use branch_kernel::{
     Bars, Blocks, Coverage, Covered, Shown, add_result, close, cover_by_plan, cover_by_record,
@@ -127,10 +128,13 @@ fn divide<B: Bars>(
         (node_box (choices codes.now) side.now range.block range.lo range.hi)) }
 {
     hints.note_rank(range.block, side.literals().len());
+    let order = order_of(alloc, codes, tables, hints, side, range)?;
     let mut cites = Vec::new(alloc);
     let mut needs = Blocks::none();
     let mut tie = false;
-    for code in range.lo..range.hi {
+    for at in 0..order.list.len() {
+        let code = order.list[at];
+        hints.note_code(at < order.first, range.block, code, &needs);
         let settled = settle(
             alloc,
             codes,
@@ -159,6 +163,7 @@ fn divide<B: Bars>(
         note(&mut cites, covered.cite)?;
         tie |= covered.tie;
     }
+    hints.leave_range();
     close(alloc, codes, log, store, side, range, &needs, cites, tie)
 }
 

@@ -1,5 +1,5 @@
 //! Boxes that their fit refutes, and the literals that it needs.
-ghost use Rattle.std.specs.Prelude.{◌≡◌, ◌+◌, ◌<◌, ◌≤◌, ◌/◌, ◌^◌, ℕ, Some, All, Contains, IfOk, MatchOption, Option, length};
+ghost use Rattle.std.specs.Prelude.{◌≡◌, ◌+◌, ◌<◌, ◌≤◌, ◌/◌, ◌^◌, ℕ, Some, All, Contains, IfOk, IfSome, MatchOption, Option, length};
 ghost use Rattle.plan_rule.specs.Boxes.{IsBox};
 ghost use Rattle.plan_rule.specs.Bounds.{IsFit};
 ghost use Rattle.plan_rule.specs.Yards.{choices};
@@ -63,16 +63,26 @@ fn fit_on(
     Ok(number_of(front.bound()))
 }
 
-/// The block of the box that was branched on last among those that were not tried.
+/// Whether the literal of one block is left out before that of another: it is not needed anyway and the other is, or
+/// else it was branched on later.
+fn is_before(hints: &Hints, one: u8, other: u8) -> bool {
+    if hints.is_needed(one) == hints.is_needed(other) {
+        hints.rank(other) <= hints.rank(one)
+    } else {
+        hints.is_needed(other)
+    }
+}
+
+/// The block of the box whose literal is left out next, among those that were not tried.
 fn latest(part: &PlanBox, hints: &Hints, tried: &[bool; 32]) -> Option<u8> {
     let mut found: Option<u8> = None;
     for l in part.literals() {
         if l.block < 32 && !tried[usize::from(l.block)] {
-            let later = match found {
-                Some(other) => hints.rank(other) <= hints.rank(l.block),
+            let sooner = match found {
+                Some(other) => is_before(hints, l.block, other),
                 None => true,
             };
-            if later {
+            if sooner {
                 found = Some(l.block);
             }
         }
@@ -136,7 +146,32 @@ fn proposal(
     Ok(marks)
 }
 
-/// The box whose fit beats it, of the literals that the search proposes or of all; None where the fit of all does not.
+/// What is kept of the box, where its fit beats it.
+fn beaten_part(
+    alloc: Global,
+    codes: &Codes,
+    tables: &YardTables<'_>,
+    bar: u64,
+    best: &Option<Plan>,
+    part: &PlanBox,
+    marks: &Blocks,
+) -> Result<Option<Beaten>, NoMemory>
+    requires tables { tables.now.yard ≡ codes.now }
+    requires known { AreKnown (choices codes.now) }
+    requires held { IsHeld (choices codes.now) bar best.now }
+    requires part { IsBox (choices codes.now) part.now }
+    ensures { IfOk result (λ o. IfSome o (IsBeatenSide (choices codes.now) bar best.now part.now)) }
+{
+    let side = keep(alloc, part, marks)?;
+    let fit = fit_of(alloc, codes, tables, &side)?;
+    let Some(tie) = beats(codes, bar, best, &side, fit) else {
+        return Ok(None);
+    };
+    Ok(Some(Beaten { side, tie }))
+}
+
+/// The box whose fit beats it, of the literals that refuted the last code past the slack, of those that the search proposes or
+/// of all; None where the fit of all does not.
 fn beaten_side(
     alloc: Global,
     codes: &Codes,
@@ -153,15 +188,18 @@ fn beaten_side(
     ensures { IfOk result (λ o. MatchOption o (HasLowFit (choices codes.now) part.now (bar / 2 ^ 32))
         (λ beaten. IsBeatenSide (choices codes.now) bar best.now part.now beaten)) }
 {
+    if let Some(last) = hints.last_side(codes) {
+        if let Some(beaten) = beaten_part(alloc, codes, tables, bar, best, part, &last)? {
+            return Ok(Some(beaten));
+        }
+    }
     let fit = fit_of(alloc, codes, tables, part)?;
     let Some(tie) = beats(codes, bar, best, part, fit) else {
         return Ok(None);
     };
     let marks = proposal(alloc, tables, bar, best, hints, part)?;
-    let short = keep(alloc, part, &marks)?;
-    let less = fit_of(alloc, codes, tables, &short)?;
-    if let Some(tie) = beats(codes, bar, best, &short, less) {
-        return Ok(Some(Beaten { side: short, tie }));
+    if let Some(beaten) = beaten_part(alloc, codes, tables, bar, best, part, &marks)? {
+        return Ok(Some(beaten));
     }
     let side = copy(alloc, part)?;
     Ok(Some(Beaten { side, tie }))
@@ -200,6 +238,7 @@ pub(crate) fn fitted<B: Bars>(
     let Some(beaten) = beaten_side(alloc, codes, tables, bar, best, hints, part)? else {
         return Ok(None);
     };
+    hints.note_side(codes, &beaten.side);
     let tie = beaten.tie;
     let number = write_fit(alloc, log, &beaten.side)?;
     let shown = Shown { number, tie };

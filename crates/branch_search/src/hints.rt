@@ -1,12 +1,30 @@
 //! What a search keeps for its own choices.
 
-use crate::levels::{Level, levels_of};
+use crate::levels::{Level, cost_of, levels_of};
 use crate::pairs::Pairs;
+use branch_kernel::Blocks;
 use code_table::Codes;
 use nogood_store::Nogoods;
 use plan_rule::{Literal, PlanBox, block_count};
 use shape_exact::NoMemory;
 use std::alloc::Global;
+
+/// The blocks whose literals refuted a code that costs so much.
+#[derive(Clone, Copy, Drop)]
+struct LastSide {
+    cost: u32,
+    marks: [bool; 32],
+}
+
+/// A code of a block that is settled without a box of its own, which blocks the record that covers it needs anyway, and what
+/// refuted the last such code.
+#[derive(Drop)]
+struct Rest {
+    block: u8,
+    code: u32,
+    needed: [bool; 32],
+    last: Option<LastSide>,
+}
 
 /// What a search keeps for its own choices: no promise rests on it. One value may serve many searches of one yard.
 #[derive(Drop)]
@@ -16,6 +34,7 @@ pub struct Hints {
     ranks: [u8; 32],
     wanted: u32,
     nodes: u64,
+    rest: Option<Rest>,
 }
 
 impl Hints {
@@ -32,6 +51,7 @@ impl Hints {
             ranks: [0; 32],
             wanted: u32::MAX,
             nodes: 0,
+            rest: None,
         })
     }
 
@@ -50,9 +70,81 @@ impl Hints {
         self.wanted = most;
     }
 
-    /// A box is entered.
+    /// A box is entered. That of a code past the slack of its block is not counted: its fit refutes it.
     pub(crate) fn enter(&mut self) {
-        self.nodes = self.nodes.saturating_add(1);
+        if self.rest.is_none() {
+            self.nodes = self.nodes.saturating_add(1);
+        }
+    }
+
+    /// No code of a range is settled.
+    pub(crate) fn leave_range(&mut self) {
+        self.rest = None;
+    }
+
+    /// A code of a block is settled next, which needs a box of its own or not. The record that covers it needs these blocks
+    /// anyway.
+    pub(crate) fn note_code(&mut self, own_box: bool, block: u8, code: u32, needs: &Blocks) {
+        if own_box {
+            self.rest = None;
+            return;
+        }
+        let mut needed = [false; 32];
+        for other in 0..32u8 {
+            needed[usize::from(other)] = needs.has(other);
+        }
+        let last = match &self.rest {
+            Some(rest) => rest.last,
+            None => None,
+        };
+        self.rest = Some(Rest {
+            block,
+            code,
+            needed,
+            last,
+        });
+    }
+
+    /// Whether the record that covers a code without a box of its own needs the block anyway.
+    pub(crate) fn is_needed(&self, block: u8) -> bool {
+        match &self.rest {
+            Some(rest) => block < 32 && rest.needed[usize::from(block)],
+            None => false,
+        }
+    }
+
+    /// The fit of these literals refuted a box.
+    pub(crate) fn note_side(&mut self, codes: &Codes, side: &PlanBox) {
+        if let Some(rest) = &mut self.rest {
+            let mut marks = [false; 32];
+            for l in side.literals() {
+                if l.block < 32 {
+                    marks[usize::from(l.block)] = true;
+                }
+            }
+            let cost = cost_of(codes, rest.block, rest.code);
+            rest.last = Some(LastSide { cost, marks });
+        }
+    }
+
+    /// The blocks whose literals refuted the last code without a box of its own, where it cost as much.
+    pub(crate) fn last_side(&self, codes: &Codes) -> Option<Blocks> {
+        let Some(rest) = &self.rest else {
+            return None;
+        };
+        let Some(last) = rest.last else {
+            return None;
+        };
+        if last.cost != cost_of(codes, rest.block, rest.code) {
+            return None;
+        }
+        let mut marks = Blocks::none();
+        for block in 0..32u8 {
+            if last.marks[usize::from(block)] {
+                marks.add(block);
+            }
+        }
+        Some(marks)
     }
 
     /// The place in the store of a box that contains this box, if one is found: the box has the code `own`, and the

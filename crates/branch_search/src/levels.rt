@@ -2,6 +2,7 @@
 ghost use Rattle.std.specs.Prelude.{◌<◌, length};
 
 use code_table::Codes;
+use plan_rule::block_count;
 use shape_exact::NoMemory;
 use std::alloc::Global;
 
@@ -48,4 +49,14 @@ pub(crate) fn levels_of(alloc: Global, codes: &Codes, block: u8) -> Result<Vec<L
         code = stretch.hi;
     }
     Ok(list)
+}
+
+/// What a code costs; 0 where the block does not have it.
+#[tactic(auto, using(plan_rule::proofs::CountLaws::counts))]
+pub(crate) fn cost_of(codes: &Codes, block: u8, code: u32) -> u32 {
+    if block < block_count(codes) && code < codes.count(block) {
+        codes.own_cost(block, code)
+    } else {
+        0
+    }
 }

@@ -14,6 +14,7 @@ mod floor;
 mod hints;
 mod levels;
 mod open;
+mod order;
 mod own;
 mod pairs;
 mod search;

@@ -1,4 +1,4 @@
-use Rattle.std.proofs.Common.{◌≡◌, ◌+◌, ◌*◌, ◌<◌, ◌∙◌, refl, sym, ap, subst, inl, inr, arith, length}
+use Rattle.std.proofs.Common.{◌≡◌, ◌+◌, ◌*◌, ◌<◌, ◌≤◌, ◌∙◌, refl, sym, ap, subst, inl, inr, arith, length}
 use Rattle.std.specs.Prelude.{option_to_list}
 use Rattle.std.proofs.lemmas.Option.{same_Some}
 use Rattle.plan_rule.specs.Boxes.{exact}
@@ -9,26 +9,31 @@ use Rattle.branch_kernel.specs.Marks.{has}
 use Rattle.branch_kernel.specs.declared.covering.Covered.{Covered}
 use Rattle.branch_kernel.specs.Shows.{IsHandledBy, IsShown}
 use Rattle.branch_kernel.proofs.NodeLaws.{runs_self, runs_onto, ready_later, node_at, place_of_node, cited_empty, cited_once_more, ok_weaker, match_none}
-use Rattle.branch_kernel.proofs.DropLaws.{handled_by_more, shown_from}
+use Rattle.branch_kernel.proofs.DropLaws.{shown_from}
 use Rattle.branch_search.proofs.FitLaws.{asked_low, asked_own}
 use Rattle.branch_kernel.proofs.WalkLaws.{flipped, jump_shown, jumped_node, along_settled, below_all, by_a_part, node_part, open_inexact, part_open, range_fewer, side_inside}
 use Rattle.branch_kernel.proofs.SplitLaws.{split_node, split_inside, shown_inside, split_inexact, child_inexact}
 use Rattle.branch_kernel.proofs.CloseLaws.{closed_done}
-use Rattle.branch_search.proofs.CycleLaws.{covers_from, match_some, opened}
+use Rattle.branch_search.proofs.CycleLaws.{covers_from, handled_all, handled_next, listed, match_some, opened}
 use Rattle.branch_search.proofs.cycle.+refute.Goals as goal
 
-pub divide-loop-code-init : goal.divide-loop-code-init
-divide-loop-code-init g t c = record {
+pub divide-loop-at-init : goal.divide-loop-at-init
+divide-loop-at-init g t c = record {
   served = c.requires.served;
   home = refl;
   runs = runs_self (choices c.args.codes.now) _ _ c.requires.ready;
   prefix = refl;
-  handled = λ code l h. absurd (omega arith);
+  handled = λ k d low high. absurd (omega arith);
   cited = cited_empty (choices c.args.codes.now) _ _ _ _ c.new-cites.ensures.items;
 }
 
+pub divide-returns-in_err-order-clause-runs : goal.divide-returns-in_err-order-clause-runs
+divide-returns-in_err-order-clause-runs g t c = runs_self (choices c.args.codes.now) _ _ c.requires.ready
+
 pub divide-settle-requires : goal.divide-settle-requires
 divide-settle-requires g t c κs within =
+    let below : c.loop-at.at < length c.in_ok-order.order.list.items = subst (λ n. c.loop-at.at < n) (c.len-at-end.ensures ∙ c.in_ok-order.order.list.ok.0) c.loop-at-test.true in
+    let in_range = listed c.in_ok-order.order.list.items c.args.range c.loop-at.at c.index-code.result.now c.in_ok-order.ensures.inside below c.index-code.ensures in
     let now : 6 * inexact (choices c.args.codes.now) c.args.side.now + 1 ≡ t = c.decreases in
     let smaller : 6 * inexact (choices c.args.codes.now) c.args.side.now < t = omega arith in (
       smaller,
@@ -37,10 +42,10 @@ divide-settle-requires g t c κs within =
         (
           c.requires.tables,
           (
-            c.loop-code.invariant.served,
+            c.loop-at.invariant.served,
             (
-              ready_later (choices c.args.codes.now) _ _ _ c.requires.ready c.loop-code.invariant.runs,
-              node_at (choices c.args.codes.now) _ _ _ _ _ _ c.requires.node c.loop-code.auto.code c.loop-code-test.true,
+              ready_later (choices c.args.codes.now) _ _ _ c.requires.ready c.loop-at.invariant.runs,
+              node_at (choices c.args.codes.now) _ _ _ _ _ _ c.requires.node in_range.0 in_range.1,
             ),
           ),
         ),
@@ -48,44 +53,49 @@ divide-settle-requires g t c κs within =
     )
 
 pub divide-returns-in_err-settled-clause-runs : goal.divide-returns-in_err-settled-clause-runs
-divide-returns-in_err-settled-clause-runs g t c = runs_onto (choices c.args.codes.now) _ _ _ _ c.requires.ready c.loop-code.invariant.runs c.settle.ensures.runs
+divide-returns-in_err-settled-clause-runs g t c = runs_onto (choices c.args.codes.now) _ _ _ _ c.requires.ready c.loop-at.invariant.runs c.settle.ensures.runs
 
 pub divide-returns-in_err-note-clause-runs : goal.divide-returns-in_err-note-clause-runs
-divide-returns-in_err-note-clause-runs g t c = runs_onto (choices c.args.codes.now) _ _ _ _ c.requires.ready c.loop-code.invariant.runs c.settle.ensures.runs
+divide-returns-in_err-note-clause-runs g t c = runs_onto (choices c.args.codes.now) _ _ _ _ c.requires.ready c.loop-at.invariant.runs c.settle.ensures.runs
 
 pub divide-returns-in-Some-clause-runs : goal.divide-returns-in-Some-clause-runs
-divide-returns-in-Some-clause-runs g t c = runs_onto (choices c.args.codes.now) _ _ _ _ c.requires.ready c.loop-code.invariant.runs c.settle.ensures.runs
+divide-returns-in-Some-clause-runs g t c = runs_onto (choices c.args.codes.now) _ _ _ _ c.requires.ready c.loop-at.invariant.runs c.settle.ensures.runs
 
 pub divide-returns-in-Some-clause-shown : goal.divide-returns-in-Some-clause-shown
 divide-returns-in-Some-clause-shown g t c =
     let (last, shown) = c.in_ok-settled.ensures.jumped c.if-settled.true c.in-Some.number c.in-Some.is in (
       last,
-      jumped_node (choices c.args.codes.now) _ _ _ _ _ c.args.side.now c.args.range.block c.args.range.lo c.args.range.hi c.requires.node.free c.loop-code.invariant.runs.grows shown,
+      jumped_node (choices c.args.codes.now) _ _ _ _ _ c.args.side.now c.args.range.block c.args.range.lo c.args.range.hi c.requires.node.free c.loop-at.invariant.runs.grows shown,
     )
 
-pub divide-loop-code-preserved : goal.divide-loop-code-preserved
-divide-loop-code-preserved g t c =
+pub divide-loop-at-preserved : goal.divide-loop-at-preserved
+divide-loop-at-preserved g t c =
     let (handled, cited) = c.in_ok-settled.ensures.covered in
+    let below : c.loop-at.at < length c.in_ok-order.order.list.items = subst (λ n. c.loop-at.at < n) (c.len-at-end.ensures ∙ c.in_ok-order.order.list.ok.0) c.loop-at-test.true in
     record {
       served = c.settle.ensures.served;
-      home = c.settle.ensures.home ∙ c.loop-code.invariant.home;
-      runs = runs_onto (choices c.args.codes.now) _ _ _ _ c.requires.ready c.loop-code.invariant.runs c.settle.ensures.runs;
-      prefix = c.settle.ensures.prefix ∙ c.loop-code.invariant.prefix;
-      handled = handled_by_more (choices c.args.codes.now) _ _ _ _ _ _ _ _ _ _ _ _ _ _ c.requires.ready.fits c.loop-code.invariant.runs.grows c.settle.ensures.runs.grows c.in_ok-note.ensures
-          c.settle.ensures.needs c.loop-code.invariant.handled handled;
-      cited = cited_once_more (choices c.args.codes.now) _ _ _ _ _ _ _ _ c.requires.ready.fits c.loop-code.invariant.runs.grows c.settle.ensures.runs.grows c.in_ok-note.ensures
-          c.loop-code.invariant.cited cited;
+      home = c.settle.ensures.home ∙ c.loop-at.invariant.home;
+      runs = runs_onto (choices c.args.codes.now) _ _ _ _ c.requires.ready c.loop-at.invariant.runs c.settle.ensures.runs;
+      prefix = c.settle.ensures.prefix ∙ c.loop-at.invariant.prefix;
+      handled = handled_next (choices c.args.codes.now) _ _ _ _ _ _ _ _ _ _ _ _ _ _ c.in_ok-order.order.list.items c.requires.ready.fits c.loop-at.invariant.runs.grows c.settle.ensures.runs.grows c.in_ok-note.ensures
+          c.settle.ensures.needs below c.index-code.ensures c.loop-at.invariant.handled handled;
+      cited = cited_once_more (choices c.args.codes.now) _ _ _ _ _ _ _ _ c.requires.ready.fits c.loop-at.invariant.runs.grows c.settle.ensures.runs.grows c.in_ok-note.ensures
+          c.loop-at.invariant.cited cited;
     }
 
 pub divide-returns-clause-runs : goal.divide-returns-clause-runs
 divide-returns-clause-runs g t c =
-    (closed_done (choices c.args.codes.now) _ _ _ _ _ _ _ _ _ _ _ _ _ _ c.close.result c.requires.ready c.loop-code.invariant.runs (place_of_node (choices c.args.codes.now) _ _ _ _ _ c.requires.node)
-    c.requires.asked c.loop-code.invariant.handled c.loop-code-test.false c.loop-code.invariant.cited c.close.ensures).0
+    let past : length c.in_ok-order.order.list.items ≤ c.loop-at.at = subst (λ n. n ≤ c.loop-at.at) (c.len-at-end.ensures ∙ c.in_ok-order.order.list.ok.0) c.loop-at-test.false in
+    let handled = handled_all (choices c.args.codes.now) _ _ _ _ _ _ _ c.args.range.lo c.args.range.hi c.loop-at.at c.in_ok-order.order.list.items c.in_ok-order.ensures.each past c.loop-at.invariant.handled in
+    (closed_done (choices c.args.codes.now) _ _ _ _ _ _ _ _ _ _ _ _ _ c.args.range.hi c.close.result c.requires.ready c.loop-at.invariant.runs (place_of_node (choices c.args.codes.now) _ _ _ _ _ c.requires.node)
+    c.requires.asked handled (omega arith) c.loop-at.invariant.cited c.close.ensures).0
 
 pub divide-returns-clause-shown : goal.divide-returns-clause-shown
 divide-returns-clause-shown g t c =
-    (closed_done (choices c.args.codes.now) _ _ _ _ _ _ _ _ _ _ _ _ _ _ c.close.result c.requires.ready c.loop-code.invariant.runs (place_of_node (choices c.args.codes.now) _ _ _ _ _ c.requires.node)
-    c.requires.asked c.loop-code.invariant.handled c.loop-code-test.false c.loop-code.invariant.cited c.close.ensures).1
+    let past : length c.in_ok-order.order.list.items ≤ c.loop-at.at = subst (λ n. n ≤ c.loop-at.at) (c.len-at-end.ensures ∙ c.in_ok-order.order.list.ok.0) c.loop-at-test.false in
+    let handled = handled_all (choices c.args.codes.now) _ _ _ _ _ _ _ c.args.range.lo c.args.range.hi c.loop-at.at c.in_ok-order.order.list.items c.in_ok-order.ensures.each past c.loop-at.invariant.handled in
+    (closed_done (choices c.args.codes.now) _ _ _ _ _ _ _ _ _ _ _ _ _ c.args.range.hi c.close.result c.requires.ready c.loop-at.invariant.runs (place_of_node (choices c.args.codes.now) _ _ _ _ _ c.requires.node)
+    c.requires.asked handled (omega arith) c.loop-at.invariant.cited c.close.ensures).1
 
 pub refute-divide-requires : goal.refute-divide-requires
 refute-divide-requires g t c κs within =

@@ -1,4 +1,5 @@
 use Rattle.std.proofs.Common.{◌≡◌, ℕ, ◌+◌, ◌*◌, ◌<◌, ◌≤◌}
+use Rattle.std.specs.List.{AllWithin}
 use Rattle.plan_rule.specs.Yards.{choices}
 use Rattle.branch_kernel.specs.States.{state}
 use Rattle.branch_kernel.specs.Boxes.{inexact}
@@ -26,16 +27,15 @@ abbrev pub decreases-deeper : goal.decreases-deeper
 decreases-deeper g l = 6 * inexact (choices l.codes.now) l.part.now + 5
 
 -- what the codes so far have come to
-abbrev pub invariant-divide-loop-code : goal.invariant-divide-loop-code
-invariant-divide-loop-code g l = record {
+abbrev pub invariant-divide-loop-at : goal.invariant-divide-loop-at
+invariant-divide-loop-at g l = record {
   served : g.B.Bars.yard l.bars ≡ l.codes;
   home : g.B.Bars.home l.bars ≡ g.B.Bars.home l.initial.bars;
   runs : Runs (choices l.codes) l.job (state (g.B.Bars.bar l.initial.bars) l.initial.best l.initial.log l.initial.store)
       (state (g.B.Bars.bar l.bars) l.best l.log l.store);
   prefix : l.store.prefix ≡ l.initial.store.prefix;
-  handled : (code : ℕ) → l.range.lo ≤ code → code < l.code
-      → IsHandledBy (choices l.codes) (state (g.B.Bars.bar l.initial.bars) l.initial.best l.initial.log l.initial.store)
-      (state (g.B.Bars.bar l.bars) l.best l.log l.store) l.tie l.side (has l.needs) l.cites.items l.range.block code;
+  handled : AllWithin (IsHandledBy (choices l.codes) (state (g.B.Bars.bar l.initial.bars) l.initial.best l.initial.log l.initial.store)
+      (state (g.B.Bars.bar l.bars) l.best l.log l.store) l.tie l.side (has l.needs) l.cites.items l.range.block) l.order.list.items 0 l.at;
   cited : AreCited (choices l.codes) (state (g.B.Bars.bar l.initial.bars) l.initial.best l.initial.log l.initial.store)
       (state (g.B.Bars.bar l.bars) l.best l.log l.store) l.tie l.cites.items;
 }
