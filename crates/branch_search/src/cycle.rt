@@ -31,8 +31,7 @@ use shape_exact::NoMemory;
 use std::alloc::Global;
 use tardiness_bounds::YardTables;
 
-/// Settles one code of a block beside a side: by a step of the kernel, or by the record of a search below it, or by the plan
-/// that is left. Marks the blocks whose literals were needed.
+/// Settles one code of a block beside a side, and marks the blocks whose literals were needed.
 #[cycle(refute)]
 fn settle<B: Bars>(
     alloc: Global,
@@ -167,8 +166,7 @@ fn divide<B: Bars>(
     close(alloc, codes, log, store, side, range, &needs, cites, tie)
 }
 
-/// Refutes the box, for all but the best plan so far and what the bar leaves: by its bounds, or by its codes of a block
-/// that it leaves open. Answers the record whose result contains the box.
+/// Refutes the box by its bounds, or by its codes of a block. Answers the record whose result contains it.
 #[cycle(refute)]
 fn refute<B: Bars>(
     alloc: Global,
@@ -289,10 +287,8 @@ fn settle_range<B: Bars>(
         (state (B.bar bars.new) best.new log.new store.new) r.tie (option_to_list r.cite)) }
 {
     if range.hi <= range.lo {
-        return Ok(Covered {
-            cite: None,
-            tie: false,
-        });
+        let tie = false;
+        return Ok(Covered { cite: None, tie });
     }
     if range.hi == range.lo + 1 {
         let settled = settle(
@@ -325,8 +321,7 @@ fn settle_range<B: Bars>(
     })
 }
 
-/// Walks along the best plan: its own code of the block is settled first, down to the last block; then the codes above it
-/// as one range, whose boxes are behind the plan, and the codes below it as one range.
+/// Walks along the best plan: its own code first, down to the last block; then the codes above it and those below it.
 #[cycle(refute)]
 pub(crate) fn along<B: Bars>(
     alloc: Global,
