@@ -9,5 +9,5 @@ use code_table::Codes;
 pub fn records_are_steps(codes: &Codes)
     ensures { RecordsAreSteps (choices codes.now) }
 {
-    let _yard = codes.yard();
+    codes.limits();
 }

@@ -35,6 +35,6 @@ pub fn records_are_proper(codes: &Codes, log: &Log, from: usize)
     ensures { (t : Option (List ℕ)) → ((i : ℕ) → from ≤ i → i < length log.now → IsStepAt (choices codes.now) t log.now i)
         → AreProper (choices codes.now) from log.now }
 {
-    let _yard = codes.yard();
+    codes.limits();
     citations_ascend(log, from);
 }

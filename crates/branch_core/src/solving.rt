@@ -95,7 +95,7 @@ pub fn solve_with<B: Bars>(
 {
     choices_are_known(codes);
     job_has_one_part(codes, job);
-    let _yard = codes.yard();
+    codes.limits();
     match region_of(codes, job) {
         Region::Empty => solve_empty(alloc, codes, job, bars, store, log),
         Region::Part { exact, lo, hi } => solve_part(

@@ -1,5 +1,6 @@
 //! Boxes made of boxes.
 ghost use Rattle.std.specs.Prelude.{◌≡◌, ◌≢◌, ◌+◌, ◌<◌, ◌≤◌, ◌++◌, ◌==◌, not, nat_lt, filter, ℕ, None, Some, IfOk, MatchOption, All, length, slice_index_or, ◌⊎◌, true, false};
+ghost use Rattle.code_table.specs.Sizes.{most_placements};
 ghost use Rattle.plan_rule.specs.Choices.{blocks, count};
 ghost use Rattle.plan_rule.specs.Boxes.{AreAmong, HasExact, IsBox, LeavesFree, exact_code, with_literal};
 ghost use Rattle.plan_rule.specs.Yards.{choices};
@@ -17,7 +18,7 @@ use std::alloc::Global;
 #[tactic(auto, using(plan_rule::proofs::CountLaws::counts))]
 pub fn count_of(codes: &Codes, block: u8) -> u32
     ensures value { result ≡ count (choices codes.now) block }
-    ensures few { result ≤ 1048576 }
+    ensures few { result ≤ most_placements }
 {
     if block < block_count(codes) {
         codes.count(block)

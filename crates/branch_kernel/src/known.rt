@@ -9,5 +9,5 @@ use code_table::Codes;
 pub fn choices_are_known(codes: &Codes)
     ensures { AreKnown (choices codes.now) }
 {
-    let _yard = codes.yard();
+    codes.limits();
 }

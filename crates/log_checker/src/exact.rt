@@ -37,7 +37,7 @@ pub(crate) fn exact_of(codes: &Codes, side: &PlanBox) -> ArrayVec<Exact, 32>
     ensures exacts { AreExact codes.now side.now result.items }
     ensures standing { All (IsStanding codes.now) result.items }
 {
-    let _yard = codes.yard();
+    codes.limits();
     let mut list = ArrayVec::new();
     for l in side.literals() {
         if l.is_exact(l.block, l.lo) {

@@ -113,7 +113,7 @@ pub(crate) fn fit_fault(
     ensures told { AreTold codes.now masks.new }
     ensures kept { ArePassed codes.now passed.new }
 {
-    let _yard = codes.yard();
+    codes.limits();
     let Some(fit) = fit(codes, masks, passed, side, greatest(claim)) else {
         return None;
     };

@@ -190,7 +190,7 @@ impl Masks {
         ensures to { code < result.hi }
         ensures told { AreTold codes.now self.new }
     {
-        let _yard = codes.yard();
+        codes.limits();
         let lo = stretch.lo + (code - stretch.lo) / 64 * 64;
         let hi = stretch.hi.min(lo + 64);
         let mut bits = 0;

@@ -4,4 +4,4 @@ use Rattle.branch_core.proofs.AnswerLaws.{steps_of_best}
 use Rattle.branch_core.proofs.laws.records_are_steps.Goals as goal
 
 pub returns : goal.returns
-returns c = steps_of_best (choices c.args.codes.now) (known c.args.codes.now c.yard-yard.ensures.limits c.yard-yard.ensures.few).small
+returns c = steps_of_best (choices c.args.codes.now) (known c.args.codes.now c.limits.ensures.limits c.limits.ensures.few).small

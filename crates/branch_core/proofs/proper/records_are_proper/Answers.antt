@@ -6,5 +6,5 @@ use Rattle.branch_core.proofs.proper.records_are_proper.Goals as goal
 pub returns : goal.returns
 unfolding choices
 returns c = λ t steps.
-    proper_from (choices c.args.codes.now) t c.args.log.now c.args.from (known c.args.codes.now c.yard-yard.ensures.limits c.yard-yard.ensures.few)
-    c.yard-yard.ensures.limits.days.1 c.citations_ascend.ensures steps
+    proper_from (choices c.args.codes.now) t c.args.log.now c.args.from (known c.args.codes.now c.limits.ensures.limits c.limits.ensures.few)
+    c.limits.ensures.limits.days.1 c.citations_ascend.ensures steps

@@ -8,7 +8,7 @@ pub solve_part-requires-clause-some : goal.solve_part-requires-clause-some
 solve_part-requires-clause-some g c =
     let part = subst (IsRegion (choices c.args.codes.now) c.args.job) c.in-Part.is c.region_of.ensures in
     subst (λ codes. c.in-Part.hi ≡ 0 → 0 < length codes) (sym c.codes.ensures)
-    (part_some c.args.codes.now c.args.job c.in-Part.exact c.in-Part.lo c.in-Part.hi c.yard-yard.ensures.blocks part)
+    (part_some c.args.codes.now c.args.job c.in-Part.exact c.in-Part.lo c.in-Part.hi c.limits.ensures.blocks part)
 
 pub returns-in-Part-clause-one_record : goal.returns-in-Part-clause-one_record
 returns-in-Part-clause-one_record g c =

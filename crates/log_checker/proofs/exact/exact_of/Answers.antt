@@ -21,7 +21,7 @@ push-requires c =
     let facts = literal_facts c.args.codes.now c.args.side.now c.literals-l-items.result.now c.loop-l.l-index (record { block = 0; lo = 0; hi = 0 })
     c.literals-l-items.ensures.value c.requires c.loop-l-test.true in
     let few = c.loop-l.invariant.few in
-    let limit = c.yard-yard.ensures.limits.few_blocks in
+    let limit = c.limits.ensures.limits.few_blocks in
     (omega arith, omega arith)
 
 pub loop-l-preserved : goal.loop-l-preserved

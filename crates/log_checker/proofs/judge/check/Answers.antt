@@ -11,7 +11,7 @@ pub returns-clause-accepted : goal.returns-clause-accepted
 returns-clause-accepted c = answer_decides (choices c.args.codes.now) _ c.args.log.now _ (returns-clause-verdict c)
 
 pub returns-clause-best : goal.returns-clause-best
-returns-clause-best c = answer_best c.args.codes.now _ c.args.log.now _ c.yard-yard.ensures.limits (returns-clause-verdict c)
+returns-clause-best c = answer_best c.args.codes.now _ c.args.log.now _ c.limits.ensures.limits (returns-clause-verdict c)
 
 pub returns-in-Some-clause-accepted : goal.returns-in-Some-clause-accepted
 returns-in-Some-clause-accepted c =
