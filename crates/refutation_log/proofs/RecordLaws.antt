@@ -30,7 +30,7 @@ lit block lo hi = record { block = block; lo = lo; hi = hi }
 abbrev IsSpan : ℕ → List ℕ → Literal → Type 0
 IsSpan block t l = (t ≡ span_text l.lo l.hi) × (l.block ≡ block) × (l.lo < l.hi) × (l.hi ≤ most_placements)
 
-one_code : (block lo : ℕ) (t : List ℕ) → t ≡ decimal lo → lo < most_placements → IsSpan block t (lit block lo (lo + 1))
+one_code : (block lo : ℕ) (t : List ℕ) → t ≡ decimal lo → lo ≤ most_placements - 1 → IsSpan block t (lit block lo (lo + 1))
 one_code block lo t e le =
     let same : eqb (lo + 1) (lo + 1) ≡ true = grind (arith, nat_tests) in
     (rw same e, refl, omega arith, omega arith)
