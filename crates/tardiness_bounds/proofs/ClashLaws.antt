@@ -166,6 +166,39 @@ piece_apart yard i piece b p at l t may free =
     (subst (λ g. AreApart g (piece_at piece) (turned p.turn (shape_of yard b)) (place_of p)) (sym (piece_is yard i piece at))
     (subst (λ g. AreApart piece.shape (piece_at piece) (turned p.turn g) (place_of p)) (sym (shape_is yard b block block_is)) apart))
 
+-- what meets a piece may meet it
+pub meets_may : (yard : PlainYard) (i : ℕ) (piece : Fixed) (b : ℕ) (p : Placement) → slice_get yard.fixed i ≡ Some piece → MeetsAt yard b p i → MayMeetPiece p piece
+meets_may yard i piece b p at m =
+    subst (MayMeetPiece p) (same_Some m.piece piece (sym m.piece_is ∙ at)) (m.meet.plate, m.meet.starts, m.meet.ends)
+
+-- a placement that may meet a piece, by the numbers of their footprints
+pub meet_by_footprints : (yard : PlainYard) (i : ℕ) (piece : Fixed) (b : ℕ) (p : Placement) (apart : Bool) → slice_get yard.fixed i ≡ Some piece
+    → b < length yard.blocks → p.turn < 4 → MayMeetPiece p piece
+    → (IsTrue apart ↔ IsClearOf (place_of p) (pair_at yard (of_piece yard i piece).footprint (b * 4 + p.turn)) (spot_of (of_piece yard i piece)))
+    → IsTrue (not apart) ↔ MeetsAt yard b p i
+meet_by_footprints yard i piece b p true at l t may told = (
+  λ no. absurd (false≢true no),
+  λ m. absurd (piece_clear yard i piece b p at l t (told.0 refl) m),
+)
+meet_by_footprints yard i piece b p false at l t may told =
+    let (block, block_is) = element yard.blocks b l in (
+      λ yes. record {
+        block = block;
+        piece = piece;
+        block_is = block_is;
+        piece_is = at;
+        meet = record {
+          plate = may.0;
+          starts = may.1;
+          ends = may.2;
+          shapes = λ apart. false≢true (told.1 (piece_apart yard i piece b p at l t may (λ m. m.meet.shapes
+              (subst (λ (f : Fixed). AreApart (turned p.turn m.block.shape) (place_of p) f.shape (piece_at f)) (same_Some piece m.piece (sym at ∙ m.piece_is))
+              (subst (λ (one : Block). AreApart (turned p.turn one.shape) (place_of p) piece.shape (piece_at piece)) (same_Some block m.block (sym block_is ∙ m.block_is)) apart)))));
+        };
+      },
+      λ m. refl,
+    )
+
 -- what is clear of all that stand near is clear of each
 pub clear_at : (yard : PlainYard) (near : List Neighbour) (moving : ℕ) (at : Point) (n : Neighbour) → AreClear (obstacles_of yard moving near) at → Contains near n
     → IsClearOf at (pair_at yard n.footprint moving) (spot_of n)

@@ -316,15 +316,3 @@ clear_code_fits yard list b code stand exist free clear =
 pub fits_clear_code : (yard : PlainYard) (list : List Standing) (b code : ℕ) → All (IsStanding yard) list → StandOnce list → LeavesFree (literals_of list) b
     → MayFit (choices yard) (literals_of list) b code → IsClearAt yard list b code
 fits_clear_code yard list b code stand once free may = λ p at. fits_clear yard list b code p stand once free at may
-
--- a code whose placement is clear of what stands near it is clear, and the other way round
-pub near_clear_code : (yard : PlainYard) (list : List Standing) (near : List Neighbour) (b code : ℕ) (p : Placement)
-    → AreNear yard p list (length yard.fixed) near → All (IsStanding yard) list → b < length yard.blocks → p.turn < 4
-    → slice_get (placements yard b) code ≡ Some p → IsClearOfNear yard near b p → IsClearAt yard list b code
-near_clear_code yard list near b code p h stand l t at clear q here =
-    subst (IsClear yard list b) (same_Some p q (sym at ∙ here)) (near_clear yard list near b p p h stand l t (refl, refl, refl) clear)
-
-pub clear_near_code : (yard : PlainYard) (list : List Standing) (near : List Neighbour) (b code : ℕ) (p : Placement)
-    → AreNear yard p list (length yard.fixed) near → All (IsStanding yard) list → b < length yard.blocks → p.turn < 4
-    → slice_get (placements yard b) code ≡ Some p → IsClearAt yard list b code → IsClearOfNear yard near b p
-clear_near_code yard list near b code p h stand l t at clear = clear_near yard list near b p p h stand l t (refl, refl, refl) (clear p at)

@@ -170,9 +170,9 @@ block_small yard codes list i d is e stand l =
     let few = is.few_blocks in
     omega arith
 
--- the neighbour that was made of a piece that was read
-pub made_piece : (yard here : PlainYard) (blocks : List Block) (near : List Neighbour) (i : ℕ) (piece : Fixed) → blocks ≡ here.blocks → here ≡ yard
-    → near ++ (record { footprint = length blocks * 4 + i; x = piece.x; y = piece.y }) ∷ [] ≡ near ++ of_piece yard i piece ∷ []
-made_piece yard here blocks near i piece e f =
-    let make : ℕ → List Neighbour = λ n. near ++ (record { footprint = n * 4 + i; x = piece.x; y = piece.y }) ∷ [] in
+-- the neighbour that is made of a piece
+pub made_piece : (yard here : PlainYard) (blocks : List Block) (i : ℕ) (piece : Fixed) → blocks ≡ here.blocks → here ≡ yard
+    → (record { footprint = length blocks * 4 + i; x = piece.x; y = piece.y }) ≡ of_piece yard i piece
+made_piece yard here blocks i piece e f =
+    let make : ℕ → Neighbour = λ n. record { footprint = n * 4 + i; x = piece.x; y = piece.y } in
     ap make (ap length (e ∙ ap (λ (y : PlainYard). y.blocks) f))

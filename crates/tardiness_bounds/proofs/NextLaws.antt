@@ -1,10 +1,13 @@
 -- What is left to a block where one more block stands.
-use Rattle.std.proofs.Common.{◌≡◌, ◌≢◌, ℕ, zero, suc, List, [], ◌∷◌, ◌++◌, length, Some, refl, sym, ap, ◌∙◌, subst, inl, inr, arith}
+use Rattle.std.proofs.Common.{◌≡◌, ◌≢◌, ℕ, zero, suc, ◌+◌, ◌<◌, List, [], ◌∷◌, ◌++◌, length, Some, refl, sym, ap, ◌∙◌, subst, inl, inr, arith}
 use Rattle.std.specs.Prelude.{slice_get, All}
 use Rattle.std.proofs.lemmas.Option.{none-some, same_Some, slice_get_within}
 use Rattle.shape_exact.proofs.EachLaws.{get-append_cases}
 use Rattle.minkowski_obstacles.proofs.ObstacleLaws.{all_push_back}
-use Rattle.code_table.specs.Placements.{own_cost, placements}
+use Rattle.shape_exact.specs.Yards.{PlainYard}
+use Rattle.shape_exact.specs.declared.block.Block.{Block}
+use Rattle.code_table.specs.declared.placement.Placement.{Placement}
+use Rattle.code_table.specs.Placements.{cost_at, cost_of, own_cost, placements}
 use Rattle.plan_rule.specs.Boxes.{HasExact, LeavesFree}
 use Rattle.plan_rule.specs.Choices.{IsCode}
 use Rattle.plan_rule.specs.Yards.{choices}
@@ -18,6 +21,11 @@ use Rattle.tardiness_bounds.specs.Tables.{PlainTables}
 use Rattle.tardiness_bounds.specs.Standings.{IsStanding, ClashesAt, literals_of}
 use Rattle.tardiness_bounds.specs.Witnesses.{AreFull, HasNoPlace, IsWitness}
 use Rattle.tardiness_bounds.proofs.FitLaws.{exact_more, exact_new, free_more, full_more, none_more, witness_more}
+
+-- what a code costs, by its placement
+pub own_cost_at : (yard : PlainYard) (b code : ℕ) (block : Block) (p : Placement) → slice_get yard.blocks b ≡ Some block → slice_get (placements yard b) code ≡ Some p
+    → own_cost yard b code ≡ cost_at block p
+own_cost_at yard b code block p at is = ap (λ o. cost_of o (slice_get (placements yard b) code)) at ∙ ap (cost_of (Some block)) is
 
 -- the code of a block that stands exists
 pub standing_code : (t : PlainTables) (f : Standing) → IsStanding t.yard f → IsCode (choices t.yard) f.block f.code
@@ -76,6 +84,20 @@ pub each_more : {A : Type 0} (P : ℕ → A → Type 0) (xs more : List A) (x : 
 each_more P xs more x n long h here pushed k y at =
     elim (get-append_cases xs (x ∷ []) k y (ap (λ zs. slice_get zs k) (sym pushed) ∙ at)) [
       | inl front ↦ h k y front
+      | inr back ↦
+          let (m, last, where_is) = back in
+          let (first, same) = only_one x y m last in
+          let e : n ≡ k = omega arith in
+          subst (P k) same (subst (λ k. P k x) e here)
+    ]
+
+-- the same of the elements that come after so many others
+pub each_after : {A : Type 0} (P : ℕ → A → Type 0) (xs more : List A) (x : A) (base n : ℕ) → length xs ≡ base + n
+    → ((k : ℕ) (y : A) → k < n → slice_get xs (base + k) ≡ Some y → P k y) → P n x → more ≡ xs ++ x ∷ []
+    → (k : ℕ) (y : A) → k < n + 1 → slice_get more (base + k) ≡ Some y → P k y
+each_after P xs more x base n long h here pushed k y below at =
+    elim (get-append_cases xs (x ∷ []) (base + k) y (ap (λ zs. slice_get zs (base + k)) (sym pushed) ∙ at)) [
+      | inl front ↦ (let l = slice_get_within xs (base + k) y front in h k y (omega arith) front)
       | inr back ↦
           let (m, last, where_is) = back in
           let (first, same) = only_one x y m last in

@@ -1,6 +1,8 @@
 -- Literals pushed and popped.
-use Rattle.std.proofs.Common.{◌≡◌, ◌≢◌, ℕ, zero, suc, ◌+◌, ◌-◌, ◌<◌, ◌≤◌, List, [], ◌∷◌, ◌++◌, length, take, get_or, Some, refl, sym, ap, ◌∙◌, subst, inl, inr, arith, length-append}
+use Rattle.std.proofs.Common.{◌≡◌, ◌≢◌, ℕ, zero, suc, ◌+◌, ◌-◌, ◌*◌, ◌<◌, ◌≤◌, List, [], ◌∷◌, ◌++◌, length, take, get_or, Some, refl, sym, ap, ◌∙◌, subst, inl, inr, arith, length-append}
 use Rattle.std.specs.Prelude.{slice_get, All}
+use Rattle.std.proofs.Math.Nat.{mul-le-mul, mul-le-mul_right, suc-mul}
+use Rattle.std.proofs.lemmas.Bool.{cases_lt}
 use Rattle.std.proofs.lemmas.List.{get_or-map, take_more}
 use Rattle.std.proofs.lemmas.Option.{none-some, same_Some, slice_get_within, slice_get-get_or}
 use Rattle.std.proofs.lemmas.List.Elements.{All-nil, All-push, All-head, All-tail, All-cons}
@@ -8,7 +10,7 @@ use Rattle.shape_exact.specs.Yards.{IsYard}
 use Rattle.shape_exact.proofs.EachLaws.{get-append_cases}
 use Rattle.plan_rule.specs.declared.literal.Literal.{Literal}
 use Rattle.plan_rule.specs.Boxes.{LeavesFree, exact}
-use Rattle.tardiness_bounds.specs.declared.frontier.Level.{Level}
+use Rattle.tardiness_bounds.specs.declared.left.Left.{Left}
 use Rattle.tardiness_bounds.specs.declared.standing.Standing.{Standing}
 use Rattle.tardiness_bounds.specs.Lefts.{AreLefts, AreLeftsBefore}
 use Rattle.tardiness_bounds.specs.Tables.{PlainTables}
@@ -68,61 +70,124 @@ pub literals_length : (list : List Standing) → length (literals_of list) ≡ l
 literals_length [] = refl
 literals_length (g ∷ list) = ap suc (literals_length list)
 
+-- an element of the first ones
+taken_get : {A : Type 0} (xs : List A) (n k : ℕ) (x : A) → k < n → slice_get xs k ≡ Some x → slice_get (take n xs) k ≡ Some x
+taken_get xs zero k x l e = absurd (omega arith)
+taken_get [] (suc n) k x l e = absurd (none-some x e)
+taken_get (y ∷ xs) (suc n) zero x l e = e
+taken_get (y ∷ xs) (suc n) (suc k) x l e = taken_get xs n k x (omega arith) e
+
+-- one time more
+one_more : (a n : ℕ) → (a + 1) * n ≡ a * n + n
+one_more a n =
+    let e : suc a ≡ a + 1 = omega arith in
+    subst (λ k. k * n ≡ a * n + n) e (suc-mul a n)
+
+-- an element of a list stands where it stood, where the list goes on
+pub kept_get : {A : Type 0} (xs more : List A) (k : ℕ) (x : A) → take (length xs) more ≡ xs → k < length xs → slice_get more k ≡ Some x → slice_get xs k ≡ Some x
+kept_get xs more k x kept l at = subst (λ ys. slice_get ys k ≡ Some x) kept (taken_get more (length xs) k x l at)
+
+-- what is left stands in a list that goes on
+lefts_longer : (t : PlainTables) (list : List Standing) (lefts more : List Left) (from : ℕ) → take (length lefts) more ≡ lefts → length lefts ≤ length more
+    → AreLefts t list lefts from → AreLefts t list more from
+lefts_longer t list lefts more from kept long h = record {
+  len = (let l = h.len in omega arith);
+  each = λ b x l at. h.each b x l (kept_get lefts more (from + b) x kept (let k = h.len in omega arith) at);
+}
+
+-- and in the front of one
+lefts_shorter : (t : PlainTables) (list : List Standing) (lefts : List Left) (from n : ℕ) → n ≤ length lefts → from + length t.yard.blocks ≤ n
+    → AreLefts t list lefts from → AreLefts t list (take n lefts) from
+lefts_shorter t list lefts from n l within h = record {
+  len = (let long = length_taken lefts n l in omega arith);
+  each = λ b x below at. h.each b x below (get_taken lefts n (from + b) x at).1;
+}
+
+-- where the last ones begin
+last_place : (t : PlainTables) (list : List Standing) (lefts : List Left) (from capacity : ℕ) → IsStack t list lefts capacity
+    → from + length t.yard.blocks ≡ length lefts → from ≡ length list * length t.yard.blocks
+last_place t list lefts from capacity s e =
+    let m = one_more (length list) (length t.yard.blocks) in
+    let l = s.len in
+    omega arith
+
+-- what all blocks leave stands last
+pub last_lefts : (t : PlainTables) (list : List Standing) (lefts : List Left) (from capacity : ℕ) → IsStack t list lefts capacity
+    → from + length t.yard.blocks ≡ length lefts → AreLefts t list lefts from
+last_lefts t list lefts from capacity s e =
+    subst (λ fs. AreLefts t fs lefts from) (take_whole list)
+    (subst (AreLefts t (take (length list) list) lefts) (sym (last_place t list lefts from capacity s e)) (s.each (length list) (omega arith)))
+
+-- a stack has what is left to each block
+pub stack_long : (t : PlainTables) (list : List Standing) (lefts : List Left) (capacity : ℕ) → IsStack t list lefts capacity → length t.yard.blocks ≤ length lefts
+stack_long t list lefts capacity s =
+    let m = one_more (length list) (length t.yard.blocks) in
+    let l = s.len in
+    omega arith
+
+-- and room for one push more
+pub stack_room : (t : PlainTables) (list : List Standing) (lefts : List Left) (capacity : ℕ) → IsStack t list lefts capacity → length list < length t.yard.blocks
+    → length lefts + 32 ≤ capacity
+stack_room t list lefts capacity s fewer =
+    let few = s.limits.few_blocks in
+    let most : (length list + 1) * length t.yard.blocks ≤ 32 * 32 = mul-le-mul (omega arith) (omega arith) in
+    let l = s.len in
+    let r = s.room in
+    omega arith
+
 -- what one block more leaves from what was left before
-pub pushed_lefts : (t : PlainTables) (list more : List Standing) (new : Standing) (levels : List Level) (level : Level) (n capacity : ℕ) → IsStack t list levels capacity
-    → more ≡ list ++ new ∷ [] → LeavesFree (literals_of list) new.block → n ≡ length list → level ≡ get_or levels n level
-    → AreLeftsBefore t more new level.lefts.items
-pushed_lefts t list more new levels level n capacity s is free long here =
-    let within : n < length levels = (let l = s.len in omega arith) in
-    let at : slice_get levels n ≡ Some level = slice_get-get_or levels n level within ∙ ap Some (sym here) in
-    record {
-      before = list;
-      ends = is;
-      free = free;
-      lefts_are = subst (λ fs. AreLefts t fs level.lefts.items) (ap (λ n. take n list) long ∙ take_whole list) (s.each n level at);
-    }
+pub pushed_lefts : (t : PlainTables) (list more : List Standing) (new : Standing) (lefts : List Left) (from capacity : ℕ) → IsStack t list lefts capacity
+    → more ≡ list ++ new ∷ [] → LeavesFree (literals_of list) new.block → from + length t.yard.blocks ≡ length lefts
+    → AreLeftsBefore t more new lefts from
+pushed_lefts t list more new lefts from capacity s is free e = record {
+  before = list;
+  ends = is;
+  free = free;
+  lefts_are = last_lefts t list lefts from capacity s e;
+}
 
 -- a new stack
-pub stack_new : (t : PlainTables) (level : Level) (levels : List Level) (capacity : ℕ) → IsYard t.yard → AreLefts t [] level.lefts.items → levels ≡ level ∷ [] → 33 ≤ capacity
-    → IsStack t [] levels capacity
-stack_new t level levels capacity limits lefts is room = record {
+pub stack_new : (t : PlainTables) (lefts : List Left) (capacity : ℕ) → IsYard t.yard → AreLefts t [] lefts 0 → length lefts ≡ length t.yard.blocks → 1056 ≤ capacity
+    → IsStack t [] lefts capacity
+stack_new t lefts capacity limits are long room = record {
   limits = limits;
   room = room;
-  len = ap length is;
+  len = (let m = one_more 0 (length t.yard.blocks) in omega arith);
   few = omega arith;
   standing = All-nil (IsStanding t.yard);
-  each = λ k x at.
-      let (e, same) = only_one level x k (ap (λ ls. slice_get ls k) (sym is) ∙ at) in
-      subst (λ (x : Level). AreLefts t (take k []) x.lefts.items) same (subst (λ k. AreLefts t (take k []) level.lefts.items) (sym e) lefts);
+  each = λ k l.
+      let e : 0 ≡ k = omega arith in
+      let begins : 0 ≡ 0 * length t.yard.blocks = omega arith in
+      subst (λ k. AreLefts t (take k []) lefts (k * length t.yard.blocks)) e (subst (AreLefts t [] lefts) begins are);
   once = λ k f at. absurd (none-some f at);
 }
 
 -- a stack with one literal more
-pub stack_push : (t : PlainTables) (list more : List Standing) (new : Standing) (levels more_levels : List Level) (level : Level) (capacity room : ℕ)
-    → IsStack t list levels capacity → more ≡ list ++ new ∷ [] → more_levels ≡ levels ++ level ∷ [] → IsStanding t.yard new
-    → LeavesFree (literals_of list) new.block → length list < length t.yard.blocks → AreLefts t more level.lefts.items → 33 ≤ room
-    → IsStack t more more_levels room
-stack_push t list more new levels more_levels level capacity room s is are stand free few lefts enough =
+pub stack_push : (t : PlainTables) (list more : List Standing) (new : Standing) (lefts more_lefts : List Left) (capacity room : ℕ)
+    → IsStack t list lefts capacity → more ≡ list ++ new ∷ [] → take (length lefts) more_lefts ≡ lefts
+    → length more_lefts ≡ length lefts + length t.yard.blocks → AreLefts t more more_lefts (length lefts) → IsStanding t.yard new
+    → LeavesFree (literals_of list) new.block → length list < length t.yard.blocks → 1056 ≤ room → IsStack t more more_lefts room
+stack_push t list more new lefts more_lefts capacity room s is kept tall last stand free fewer enough =
     let long : length more ≡ length list + 1 = ap length is ∙ length-append list (new ∷ []) in
-    let tall : length more_levels ≡ length levels + 1 = ap length are ∙ length-append levels (level ∷ []) in
+    let times : (length more + 1) * length t.yard.blocks ≡ (length list + 1) * length t.yard.blocks + length t.yard.blocks =
+    ap (λ n. (n + 1) * length t.yard.blocks) long ∙ one_more (length list + 1) (length t.yard.blocks) in
     record {
       limits = s.limits;
       room = enough;
       len = (let l = s.len in omega arith);
       few = omega arith;
       standing = subst (All (IsStanding t.yard)) (sym is) (All-push (IsStanding t.yard) list new s.standing stand);
-      each = λ k x at. elim (get-append_cases levels (level ∷ []) k x (ap (λ ls. slice_get ls k) (sym are) ∙ at)) [
-        | inl front ↦
-            let l = slice_get_within levels k x front in
-            let le : k ≤ length list = (let e = s.len in omega arith) in
-            subst (λ fs. AreLefts t fs x.lefts.items) (sym (take_front list (new ∷ []) k le) ∙ ap (take k) (sym is)) (s.each k x front)
-        | inr back ↦
-            let (m, last, where_is) = back in
-            let (first, same) = only_one level x m last in
-            let e : length more ≡ k = (let a = s.len in omega arith) in
-            subst (λ (x : Level). AreLefts t (take k more) x.lefts.items) same
-            (subst (λ k. AreLefts t (take k more) level.lefts.items) e
-            (subst (λ fs. AreLefts t fs level.lefts.items) (sym (take_whole more)) lefts))
+      each = λ k within. elim (cases_lt k (length more)) [
+        | inl before ↦
+            let le : k ≤ length list = omega arith in
+            subst (λ fs. AreLefts t fs more_lefts (k * length t.yard.blocks)) (sym (take_front list (new ∷ []) k le) ∙ ap (take k) (sym is))
+            (lefts_longer t (take k list) lefts more_lefts (k * length t.yard.blocks) kept (omega arith) (s.each k le))
+        | inr after ↦
+            let e : length more ≡ k = omega arith in
+            let at : length lefts ≡ k * length t.yard.blocks = s.len ∙ ap (λ n. n * length t.yard.blocks) (sym long ∙ e) in
+            subst (AreLefts t (take k more) more_lefts) at
+            (subst (λ k. AreLefts t (take k more) more_lefts (length lefts)) e
+            (subst (λ fs. AreLefts t fs more_lefts (length lefts)) (sym (take_whole more)) last))
       ];
       once = λ k f at. elim (get-append_cases list (new ∷ []) k f (ap (λ fs. slice_get fs k) (sym is) ∙ at)) [
         | inl front ↦
@@ -139,21 +204,27 @@ stack_push t list more new levels more_levels level capacity room s is are stand
     }
 
 -- a stack with one literal fewer
-pub stack_pop : (t : PlainTables) (list fewer : List Standing) (levels fewer_levels : List Level) (capacity room : ℕ) → IsStack t list levels capacity
-    → 0 < length list → fewer ≡ take (length list - 1) list → fewer_levels ≡ take (length levels - 1) levels → 33 ≤ room → IsStack t fewer fewer_levels room
-stack_pop t list fewer levels fewer_levels capacity room s some is are enough =
+pub stack_pop : (t : PlainTables) (list fewer : List Standing) (lefts fewer_lefts : List Left) (from capacity room : ℕ) → IsStack t list lefts capacity
+    → 0 < length list → fewer ≡ take (length list - 1) list → from + length t.yard.blocks ≡ length lefts → fewer_lefts ≡ take from lefts → 1056 ≤ room
+    → IsStack t fewer fewer_lefts room
+stack_pop t list fewer lefts fewer_lefts from capacity room s some is begins are enough =
     let short : length fewer ≡ length list - 1 = ap length is ∙ length_taken list (length list - 1) (omega arith) in
-    let low : length fewer_levels ≡ length levels - 1 = ap length are ∙ length_taken levels (length levels - 1) (omega arith) in
+    let low : length fewer_lefts ≡ from = ap length are ∙ length_taken lefts from (omega arith) in
+    let place = last_place t list lefts from capacity s begins in
+    let again : length fewer + 1 ≡ length list = omega arith in
     record {
       limits = s.limits;
       room = enough;
-      len = (let l = s.len in omega arith);
+      len = low ∙ place ∙ ap (λ n. n * length t.yard.blocks) (sym again);
       few = (let l = s.few in omega arith);
       standing = subst (All (IsStanding t.yard)) (sym is) (all_taken (IsStanding t.yard) list (length list - 1) s.standing);
-      each = λ k x at.
-          let (l, here) = get_taken levels (length levels - 1) k x (ap (λ ls. slice_get ls k) (sym are) ∙ at) in
-          let le : k ≤ length list - 1 = (let e = s.len in omega arith) in
-          subst (λ fs. AreLefts t fs x.lefts.items) (sym (take_less list k (length list - 1) le) ∙ ap (take k) (sym is)) (s.each k x here);
+      each = λ k l.
+          let le : k ≤ length list - 1 = omega arith in
+          let more = one_more k (length t.yard.blocks) in
+          let most : (k + 1) * length t.yard.blocks ≤ length list * length t.yard.blocks = mul-le-mul_right (length t.yard.blocks) (omega arith) in
+          subst (λ ls. AreLefts t (take k fewer) ls (k * length t.yard.blocks)) (sym are)
+          (subst (λ fs. AreLefts t fs (take from lefts) (k * length t.yard.blocks)) (sym (take_less list k (length list - 1) le) ∙ ap (take k) (sym is))
+          (lefts_shorter t (take k list) lefts (k * length t.yard.blocks) from (omega arith) (omega arith) (s.each k (omega arith))));
       once = λ k f at.
           let (l, here) = get_taken list (length list - 1) k f (ap (λ fs. slice_get fs k) (sym is) ∙ at) in
           subst (λ fs. LeavesFree (literals_of fs) f.block) (sym (take_less list k (length list - 1) (omega arith)) ∙ ap (take k) (sym is)) (s.once k f here);

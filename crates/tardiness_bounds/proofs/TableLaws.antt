@@ -8,10 +8,11 @@ use Rattle.shape_exact.specs.Yards.{PlainYard}
 use Rattle.shape_exact.specs.declared.block.Block.{Block}
 use Rattle.minkowski_obstacles.specs.Pairs.{Pair}
 use Rattle.shape_exact.proofs.EachLaws.{get-append_cases}
+use Rattle.tardiness_bounds.specs.declared.stretches.StretchList.{StretchList}
 use Rattle.tardiness_bounds.specs.declared.tables.SlotList.{SlotList}
 use Rattle.tardiness_bounds.specs.Footprints.{footprint_count, pair_at, turned_count}
 use Rattle.tardiness_bounds.specs.Obstacles.{AreObstacles, HaveObstacles}
-use Rattle.tardiness_bounds.specs.Tables.{HaveSlots}
+use Rattle.tardiness_bounds.specs.Tables.{AreStretches, HaveSlots}
 use Rattle.tardiness_bounds.specs.Slots.{AreSlots}
 use Rattle.std.proofs.Math.Nat.{mul_comm}
 
@@ -32,6 +33,20 @@ slots_more yard blocks lists more i block s long old at is pushed b bl t in_bloc
           let e : b ≡ i = omega arith in
           let f : block ≡ bl = same_Some block bl (sym at ∙ ap (slice_get blocks) (sym e) ∙ in_blocks) in
           subst (λ bl. AreSlots yard bl t.list.items) f (subst (λ (s : SlotList). AreSlots yard block s.list.items) same is)
+    ]
+
+-- the stretches of one block more
+pub stretches_more : (yard : PlainYard) (lists more : List StretchList) (s : StretchList) (n : ℕ) → length lists ≡ n
+    → ((b : ℕ) (t : StretchList) → slice_get lists b ≡ Some t → AreStretches yard b t) → AreStretches yard n s → more ≡ lists ++ s ∷ []
+    → (b : ℕ) (t : StretchList) → slice_get more b ≡ Some t → AreStretches yard b t
+stretches_more yard lists more s n long old is pushed b t at =
+    elim (get-append_cases lists (s ∷ []) b t (ap (λ ts. slice_get ts b) (sym pushed) ∙ at)) [
+      | inl front ↦ old b t front
+      | inr back ↦
+          let (m, here, where_is) = back in
+          let (first, same) = only_one s t m here in
+          let e : n ≡ b = omega arith in
+          subst (AreStretches yard b) same (subst (λ b. AreStretches yard b s) e is)
     ]
 
 front_at : {A : Type 0} (xs : List A) (y x : A) (k : ℕ) → slice_get xs k ≡ Some x → slice_get (xs ++ y ∷ []) k ≡ Some x

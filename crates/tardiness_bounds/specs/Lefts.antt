@@ -1,5 +1,5 @@
 -- What is left to each block beside blocks that stand.
-use Rattle.std.specs.Prelude.{◌≡◌, ℕ, List, [], ◌∷◌, ◌++◌, length, Option, Some, None, slice_get}
+use Rattle.std.specs.Prelude.{◌≡◌, ℕ, ◌+◌, ◌<◌, ◌≤◌, List, [], ◌∷◌, ◌++◌, length, Option, Some, None, slice_get}
 use Rattle.plan_rule.specs.Boxes.{LeavesFree, HasExact}
 use Rattle.plan_rule.specs.Choices.{IsCode}
 use Rattle.plan_rule.specs.Yards.{choices}
@@ -17,10 +17,10 @@ IsLeft t list b (Stands cost) =
 IsLeft t list b (Free w) = LeavesFree (literals_of list) b × IsWitness t list b w
 IsLeft t list b Never = LeavesFree (literals_of list) b × HasNoPlace t.yard list b
 
--- the same of each block
-pub record AreLefts (t : PlainTables) (list : List Standing) (lefts : List Left) : Type 0 where
-  pub len : length lefts ≡ length t.yard.blocks
-  pub each : (b : ℕ) (x : Left) → slice_get lefts b ≡ Some x → IsLeft t list b x
+-- from a place on, what is left to each block
+pub record AreLefts (t : PlainTables) (list : List Standing) (lefts : List Left) (from : ℕ) : Type 0 where
+  pub len : from + length t.yard.blocks ≤ length lefts
+  pub each : (b : ℕ) (x : Left) → b < length t.yard.blocks → slice_get lefts (from + b) ≡ Some x → IsLeft t list b x
 
 -- the list ends with a block that no other of it is, and this was left to another block before
 pub record IsLeftBefore (t : PlainTables) (list : List Standing) (new : Standing) (b : ℕ) (x : Left) : Type 0 where
@@ -29,12 +29,12 @@ pub record IsLeftBefore (t : PlainTables) (list : List Standing) (new : Standing
   pub free : LeavesFree (literals_of before) new.block
   pub left : IsLeft t before b x
 
--- the same of each block
-pub record AreLeftsBefore (t : PlainTables) (list : List Standing) (new : Standing) (lefts : List Left) : Type 0 where
+-- from a place on, the same of each block
+pub record AreLeftsBefore (t : PlainTables) (list : List Standing) (new : Standing) (lefts : List Left) (from : ℕ) : Type 0 where
   pub before : List Standing
   pub ends : list ≡ before ++ new ∷ []
   pub free : LeavesFree (literals_of before) new.block
-  pub lefts_are : AreLefts t before lefts
+  pub lefts_are : AreLefts t before lefts from
 
 -- the cost of what is left; none where nothing is
 abbrev pub cost_of_left : Left → Option ℕ

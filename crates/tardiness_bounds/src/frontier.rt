@@ -1,21 +1,20 @@
 //! The fit of a box of exact literals that grows and shrinks.
-ghost use Rattle.std.specs.Prelude.{◌≡◌, true, false, ◌<◌, ◌≤◌, ◌++◌, ◌∷◌, [], All, length, min, take, ◌-◌, IfOk, IfSome};
+ghost use Rattle.std.specs.Prelude.{◌≡◌, true, false, ◌<◌, ◌≤◌, ◌+◌, ◌++◌, ◌∷◌, [], All, length, min, take, ◌-◌, IfOk, IfSome};
 ghost use Rattle.plan_rule.specs.Bounds.{IsFit, IsLeastOf, MayFit};
 ghost use Rattle.plan_rule.specs.Boxes.{exact, LeavesFree};
 ghost use Rattle.plan_rule.specs.Choices.{IsCode, blocks, count};
 ghost use Rattle.plan_rule.specs.Yards.{choices};
 ghost use Rattle.tardiness_bounds.specs.Firsts.{IsFirst};
 ghost use Rattle.tardiness_bounds.specs.Nexts.{MayFitUpTo};
-ghost use Rattle.tardiness_bounds.specs.Lefts.{AreLefts, AreLeftsBefore, cost_of_left};
+ghost use Rattle.tardiness_bounds.specs.Lefts.{AreLefts, cost_of_left};
 ghost use Rattle.tardiness_bounds.specs.Numbers.{number};
 ghost use Rattle.tardiness_bounds.specs.Stacks.{CanPush};
-ghost use Rattle.tardiness_bounds.specs.Standings.{IsClearAt, IsStanding, StandOnce, literals_of};
+ghost use Rattle.tardiness_bounds.specs.Standings.{IsStanding, StandOnce, literals_of};
 
-use crate::apart::are_apart;
 use crate::bound::{Bound, bound_of};
 use crate::free_codes::FreeCodes;
-use crate::left::{Left, first_lefts, next_lefts};
-use crate::near::near_to;
+use crate::clear::is_clear;
+use crate::left::{Left, add_lefts, first_lefts};
 use crate::standing::Standing;
 use crate::tables::YardTables;
 use crate::walk::{next_code, walk_from};
@@ -26,19 +25,13 @@ use shape_exact::NoMemory;
 use std::alloc::Global;
 use std::marker::Model;
 
-/// What is left to each block.
-#[derive(Drop)]
-pub(crate) struct Level {
-    pub lefts: ArrayVec<Left, 32>,
-}
-
 /// Exact literals that were pushed, and what each number of the first of them leaves to each block. Contracts see it as
 /// the yard and the list of the literals, in the order of the pushes.
 #[derive(Drop)]
 pub struct Frontier<'a> {
     tables: &'a YardTables<'a>,
     list: ArrayVec<Standing, 32>,
-    levels: Vec<Level>,
+    lefts: Vec<Left>,
 }
 
 impl<'a> Model for Frontier<'a> {
@@ -50,7 +43,7 @@ impl<'a> Model for Frontier<'a> {
 
     ghost view = { λ s. record { yard = s.tables.now.yard; literals = literals_of s.list.items } };
 
-    ghost invariant = { λ s. IsStack s.tables.now s.list.items s.levels.items (vec_capacity s.levels) };
+    ghost invariant = { λ s. IsStack s.tables.now s.list.items s.lefts.items (vec_capacity s.lefts) };
 }
 
 /// What a block costs at least of what is left to it. None where nothing is.
@@ -71,46 +64,53 @@ fn standing_at(tables: &YardTables<'_>, block: u8, code: u32) -> Standing
     ensures code { result.code ≡ code }
     ensures standing { IsStanding tables.now.yard result }
 {
-    let place = tables.codes().place(block, code);
+    let place = tables.place(block, code);
     Standing { block, code, place }
 }
 
-/// What is left where one more block stands, the last of the list.
-fn next_level(tables: &YardTables<'_>, list: &[Standing], new: Standing, old: &Level) -> Level
-    requires list { All (IsStanding tables.now.yard) list.now }
-    requires few { length list.now ≤ 32 }
-    requires old { AreLeftsBefore tables.now list.now new old.now.lefts.items }
-    ensures { AreLefts tables.now list.now result.lefts.items }
+/// Where the last ones begin, one for each block.
+fn last_from(tables: &YardTables<'_>, lefts: &[Left]) -> usize
+    requires { length tables.now.yard.blocks ≤ length lefts.now }
+    ensures { result + length tables.now.yard.blocks ≡ length lefts.now }
 {
-    Level {
-        lefts: next_lefts(tables, list, new, old.lefts.as_slice()),
-    }
+    lefts.len() - usize::from(block_count(tables.codes()))
 }
 
 /// What a block costs at least of what is left to it; None where nothing is.
-fn least_in(tables: &YardTables<'_>, list: &[Standing], lefts: &[Left], block: u8) -> Option<u32>
+fn least_in(
+    tables: &YardTables<'_>,
+    list: &[Standing],
+    lefts: &[Left],
+    from: usize,
+    block: u8,
+) -> Option<u32>
     requires list { All (IsStanding tables.now.yard) list.now }
     requires once { StandOnce list.now }
-    requires lefts { AreLefts tables.now list.now lefts.now }
+    requires lefts { AreLefts tables.now list.now lefts.now from }
     requires block { block < blocks (choices tables.now.yard) }
     ensures least { IsLeastOf (MayFit (choices tables.now.yard) (literals_of list.now) block) ((choices tables.now.yard).cost block) result }
     ensures few { IfSome result (λ n. n ≤ 400000) }
 {
     let _yard = tables.codes().yard();
     let _slots = tables.slots(block);
-    cost_of(lefts[block as usize])
+    cost_of(lefts[from + block as usize])
 }
 
 /// The sum of what the blocks cost at least of what is left to them; None where nothing is left to one.
-fn sum_of(tables: &YardTables<'_>, list: &[Standing], lefts: &[Left]) -> Option<u32>
+fn sum_of(
+    tables: &YardTables<'_>,
+    list: &[Standing],
+    lefts: &[Left],
+    from: usize,
+) -> Option<u32>
     requires list { All (IsStanding tables.now.yard) list.now }
     requires once { StandOnce list.now }
-    requires lefts { AreLefts tables.now list.now lefts.now }
+    requires lefts { AreLefts tables.now list.now lefts.now from }
     ensures { IsFit (choices tables.now.yard) (literals_of list.now) result }
 {
     let mut sum = 0;
     for block in 0..block_count(tables.codes()) {
-        sum += least_in(tables, list, lefts, block)?;
+        sum += least_in(tables, list, lefts, from, block)?;
     }
     Some(sum)
 }
@@ -128,26 +128,6 @@ fn leaves_free(list: &[Standing], block: u8) -> bool
     true
 }
 
-/// Whether a block that does not stand clashes, at a code, with none of those that stand, and meets no piece.
-fn is_clear(tables: &YardTables<'_>, list: &[Standing], block: u8, code: u32) -> bool
-    requires list { All (IsStanding tables.now.yard) list.now }
-    requires few { length list.now ≤ 32 }
-    requires code { IsCode (choices tables.now.yard) block code }
-    ensures yes { result ≡ true → IsClearAt tables.now.yard list.now block code }
-    ensures no { result ≡ false → IsClearAt tables.now.yard list.now block code → ⊥ }
-{
-    let _yard = tables.codes().yard();
-    let new = standing_at(tables, block, code);
-    let mut near = ArrayVec::new();
-    near_to(tables, list, new.place, &mut near);
-    are_apart(
-        tables,
-        near.as_slice(),
-        block * 4 + new.place.turn,
-        new.place,
-    )
-}
-
 impl<'a> Frontier<'a> {
     /// No literal.
     pub fn new(alloc: Global, tables: &'a YardTables<'a>) -> Result<Frontier<'a>, NoMemory>
@@ -155,14 +135,11 @@ impl<'a> Frontier<'a> {
         ensures empty { IfOk result (λ frontier. frontier.literals ≡ []) }
     {
         let _yard = tables.codes().yard();
-        let mut levels = Vec::with_capacity(alloc, 33)?;
-        levels.push(Level {
-            lefts: first_lefts(tables),
-        })?;
+        let lefts = first_lefts(alloc, tables)?;
         Ok(Frontier {
             tables,
             list: ArrayVec::new(),
-            levels,
+            lefts,
         })
     }
 
@@ -188,12 +165,9 @@ impl<'a> Frontier<'a> {
         ensures pushed { self.new.literals ≡ self.old.literals ++ exact block code ∷ [] }
     {
         let new = standing_at(self.tables, block, code);
-        let depth = self.list.len();
+        let from = last_from(self.tables, self.lefts.as_slice());
         self.list.push(new);
-        let level = next_level(self.tables, self.list.as_slice(), new, &self.levels[depth]);
-        let Ok(()) = self.levels.push(level) else {
-            unreachable!()
-        };
+        add_lefts(self.tables, self.list.as_slice(), new, from, &mut self.lefts);
     }
 
     /// Whether the literal of the code may be pushed: the code exists, and its block has no literal.
@@ -217,7 +191,8 @@ impl<'a> Frontier<'a> {
         ensures yes { result ≡ true → MayFit (choices self.now.yard) self.now.literals block code }
         ensures no { result ≡ false → MayFit (choices self.now.yard) self.now.literals block code → ⊥ }
     {
-        is_clear(self.tables, self.list.as_slice(), block, code)
+        let place = self.tables.place(block, code);
+        is_clear(self.tables, self.list.as_slice(), block, place)
     }
 
     /// Undoes the last push.
@@ -226,8 +201,9 @@ impl<'a> Frontier<'a> {
         ensures yard { self.new.yard ≡ self.old.yard }
         ensures popped { self.new.literals ≡ take (length self.old.literals - 1) self.old.literals }
     {
+        let from = last_from(self.tables, self.lefts.as_slice());
         self.list.pop();
-        self.levels.truncate(self.list.len() + 1);
+        self.lefts.truncate(from);
     }
 
     /// The fit of the box of the literals. Takes no memory.
@@ -235,8 +211,8 @@ impl<'a> Frontier<'a> {
         ensures { IsFit (choices self.now.yard) self.now.literals (number result) }
     {
         let list = self.list.as_slice();
-        let lefts = self.levels[list.len()].lefts.as_slice();
-        bound_of(sum_of(self.tables, list, lefts))
+        let lefts = self.lefts.as_slice();
+        bound_of(sum_of(self.tables, list, lefts, last_from(self.tables, lefts)))
     }
 
     /// The least own cost of the codes of a block that clash with no literal and meet no piece; None where there is none. Of a
@@ -246,8 +222,8 @@ impl<'a> Frontier<'a> {
         ensures { IsLeastOf (MayFit (choices self.now.yard) self.now.literals block) ((choices self.now.yard).cost block) result }
     {
         let list = self.list.as_slice();
-        let lefts = self.levels[list.len()].lefts.as_slice();
-        least_in(self.tables, list, lefts, block)
+        let lefts = self.lefts.as_slice();
+        least_in(self.tables, list, lefts, last_from(self.tables, lefts), block)
     }
 
     /// The next code of a block without a literal, from `code` on, that clashes with no literal, meets no piece and costs at

@@ -1,18 +1,20 @@
 //! What is left to each block beside blocks that stand.
-ghost use Rattle.std.specs.Prelude.{◌≡◌, ◌<◌, ◌≤◌, ◌↔◌, ◌++◌, ◌∷◌, [], ℕ, All, IsTrue, length};
+ghost use Rattle.std.specs.Prelude.{◌≡◌, ◌<◌, ◌≤◌, ◌+◌, ◌↔◌, ◌++◌, ◌∷◌, [], ℕ, All, IfOk, IsTrue, length, take, vec_capacity};
 ghost use Rattle.plan_rule.specs.Boxes.{LeavesFree};
 ghost use Rattle.tardiness_bounds.specs.Standings.{IsStanding, ClashesAt, literals_of};
 ghost use Rattle.tardiness_bounds.specs.Witnesses.{AreFull};
 ghost use Rattle.tardiness_bounds.specs.Lefts.{AreLefts, AreLeftsBefore, IsLeft, IsLeftBefore};
 
 use crate::apart::is_apart;
+use crate::block::block_at;
 use crate::near::of_standing;
 use crate::standing::Standing;
 use crate::tables::YardTables;
 use crate::witness::{Witness, witness_from};
-use arrayvec::ArrayVec;
-use code_table::Placement;
+use code_table::{Placement, cost_on};
 use plan_rule::{block_count, may_clash};
+use shape_exact::NoMemory;
+use std::alloc::Global;
 
 /// What is left to a block beside blocks that stand.
 #[derive(Clone, Copy)]
@@ -60,16 +62,18 @@ fn left_from(tables: &YardTables<'_>, list: &[Standing], block: u8, from: usize)
     }
 }
 
-/// What is left to each block where none stands.
-pub(crate) fn first_lefts(tables: &YardTables<'_>) -> ArrayVec<Left, 32>
-    ensures { AreLefts tables.now [] result.items }
+/// What is left to each block where none stands, with room for what each of 32 pushes adds.
+pub(crate) fn first_lefts(alloc: Global, tables: &YardTables<'_>) -> Result<Vec<Left>, NoMemory>
+    ensures lefts { IfOk result (λ lefts. AreLefts tables.now [] lefts.items 0) }
+    ensures len { IfOk result (λ lefts. length lefts.items ≡ length tables.now.yard.blocks) }
+    ensures room { IfOk result (λ lefts. 1056 ≤ vec_capacity lefts) }
 {
     let codes = tables.codes();
-    let mut lefts = ArrayVec::new();
+    let mut lefts = Vec::with_capacity(alloc, 1056)?;
     for block in 0..block_count(codes) {
-        lefts.push(left_from(tables, &[], block, 0));
+        lefts.push(left_from(tables, &[], block, 0))?;
     }
-    lefts
+    Ok(lefts)
 }
 
 /// What is left to a block where one more block stands, the last of the list.
@@ -88,7 +92,7 @@ fn next_left(
 {
     let codes = tables.codes();
     if block == new.block {
-        return Left::Stands(codes.own_cost(block, new.code));
+        return Left::Stands(cost_on(block_at(codes, block), new.place.end));
     }
     match old {
         Left::Free(w) => {
@@ -103,22 +107,28 @@ fn next_left(
     }
 }
 
-/// What is left to each block where one more block stands, the last of the list.
-pub(crate) fn next_lefts(
+/// Adds what is left to each block where one more block stands, the last of the list, to what was left before, which stands
+/// from `from` on.
+pub(crate) fn add_lefts(
     tables: &YardTables<'_>,
     list: &[Standing],
     new: Standing,
-    old: &[Left],
-) -> ArrayVec<Left, 32>
+    from: usize,
+    lefts: &mut Vec<Left>,
+)
     requires list { All (IsStanding tables.now.yard) list.now }
     requires few { length list.now ≤ 32 }
-    requires old { AreLeftsBefore tables.now list.now new old.now }
-    ensures { AreLefts tables.now list.now result.items }
+    requires old { AreLeftsBefore tables.now list.now new lefts.old.items from }
+    requires room { length lefts.old.items + 32 ≤ vec_capacity lefts.old }
+    ensures kept { take (length lefts.old.items) lefts.new.items ≡ lefts.old.items }
+    ensures len { length lefts.new.items ≡ length lefts.old.items + length tables.now.yard.blocks }
+    ensures lefts { AreLefts tables.now list.now lefts.new.items (length lefts.old.items) }
+    ensures room { vec_capacity lefts.old ≤ vec_capacity lefts.new }
 {
-    let codes = tables.codes();
-    let mut lefts = ArrayVec::new();
-    for block in 0..block_count(codes) {
-        lefts.push(next_left(tables, list, new, block, old[block as usize]));
+    for block in 0..block_count(tables.codes()) {
+        let left = next_left(tables, list, new, block, lefts[from + block as usize]);
+        let Ok(()) = lefts.push(left) else {
+            unreachable!()
+        };
     }
-    lefts
 }

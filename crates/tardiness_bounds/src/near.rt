@@ -1,6 +1,6 @@
 //! What stands near a slot.
-ghost use Rattle.std.specs.Prelude.{◌≡◌, ◌<◌, ◌≤◌, All, length};
-ghost use Rattle.tardiness_bounds.specs.Neighbours.{AreNear, IsNeighbour, of_standing};
+ghost use Rattle.std.specs.Prelude.{◌≡◌, ◌<◌, ◌≤◌, All, Some, length, slice_get};
+ghost use Rattle.tardiness_bounds.specs.Neighbours.{AreNear, IsNeighbour, of_piece, of_standing};
 ghost use Rattle.tardiness_bounds.specs.Standings.{IsStanding};
 
 use crate::standing::Standing;
@@ -8,6 +8,7 @@ use crate::tables::YardTables;
 use arrayvec::ArrayVec;
 use code_table::Placement;
 use plan_rule::{may_clash, may_meet_piece};
+use shape_exact::Fixed;
 
 /// A footprint that stands on a plate, by its number, and where it stands.
 #[derive(Clone, Copy, Default)]
@@ -30,6 +31,20 @@ pub(crate) fn of_standing(f: Standing) -> Neighbour
         footprint: f.block * 4 + f.place.turn,
         x: f.place.x,
         y: f.place.y,
+    }
+}
+
+/// The piece with this number, by its footprint.
+pub(crate) fn of_piece(tables: &YardTables<'_>, i: usize, piece: &Fixed) -> Neighbour
+    requires { slice_get tables.now.yard.fixed i ≡ Some piece.now }
+    ensures value { result ≡ of_piece tables.now.yard i piece.now }
+    ensures neighbour { IsNeighbour tables.now.yard result }
+{
+    let turned = tables.codes().yard().blocks().len() * 4;
+    Neighbour {
+        footprint: (turned + i) as u8,
+        x: piece.x,
+        y: piece.y,
     }
 }
 
@@ -65,14 +80,9 @@ pub(crate) fn near_to(
 {
     near_blocks(tables, list, place, near);
     let yard = tables.codes().yard();
-    let turned = yard.blocks().len() * 4;
     for (i, piece) in yard.fixed().iter().enumerate() {
         if may_meet_piece(place, piece) {
-            near.push(Neighbour {
-                footprint: (turned + i) as u8,
-                x: piece.x,
-                y: piece.y,
-            });
+            near.push(of_piece(tables, i, piece));
         }
     }
 }

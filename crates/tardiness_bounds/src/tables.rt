@@ -1,16 +1,18 @@
 //! What is made once of a yard to find free tables.
-ghost use Rattle.std.specs.Prelude.{◌≡◌, ◌<◌, ℕ, pos, ◌-ℤ◌, Some, length, slice_get, IfOk};
+ghost use Rattle.std.specs.Prelude.{◌≡◌, ◌<◌, ◌≤◌, ℕ, pos, ◌-ℤ◌, Some, length, slice_get, IfOk};
 ghost use Rattle.shape_exact.specs.Yards.{PlainYard};
 ghost use Rattle.shape_exact.specs.declared.block.Block.{Block};
+ghost use Rattle.code_table.specs.Placements.{placements};
 ghost use Rattle.tardiness_bounds.specs.Footprints.{footprint_count, pair_at, turned_count};
 ghost use Rattle.tardiness_bounds.specs.Rows.{IsRowOf};
-ghost use Rattle.tardiness_bounds.specs.Tables.{AreAllSlots};
+ghost use Rattle.tardiness_bounds.specs.Tables.{AreAllSlots, AreAllStretches};
 ghost use Rattle.tardiness_bounds.specs.Slots.{AreSlots};
 
 use crate::obstacles::Obstacles;
 use crate::rows::{Rows, row_place, way};
 use crate::slot::{Slot, slots_of};
-use code_table::Codes;
+use crate::stretches::{StretchList, place_at, stretches_of};
+use code_table::{Codes, Placement};
 use minkowski_obstacles::Obstacle;
 use shape_exact::NoMemory;
 use std::alloc::Global;
@@ -29,6 +31,7 @@ pub(crate) struct SlotList {
 pub struct YardTables<'a> {
     codes: &'a Codes,
     slots: Vec<SlotList>,
+    stretches: Vec<StretchList>,
     obstacles: Obstacles,
     rows: Rows,
 }
@@ -40,7 +43,7 @@ impl<'a> Model for YardTables<'a> {
 
     ghost view = { λ s. record { yard = s.codes.now; slots = lists_of s.slots.items } };
 
-    ghost invariant = { λ s. AreTables s.codes.now s.slots.items s.obstacles.list.items s.rows.reach s.rows.list.items };
+    ghost invariant = { λ s. AreTables s.codes.now s.slots.items s.stretches.items s.obstacles.list.items s.rows.reach s.rows.list.items };
 }
 
 /// The slots of each block, by block.
@@ -56,6 +59,18 @@ fn all_slots(alloc: Global, codes: &Codes) -> Result<Vec<SlotList>, NoMemory>
     Ok(slots)
 }
 
+/// The stretches that are kept of each block.
+fn all_stretches(alloc: Global, codes: &Codes) -> Result<Vec<StretchList>, NoMemory>
+    ensures { IfOk result (λ stretches. AreAllStretches codes.now stretches.items) }
+{
+    let blocks = codes.yard().blocks();
+    let mut stretches = Vec::with_capacity(alloc, blocks.len())?;
+    for block in 0..blocks.len() {
+        stretches.push(stretches_of(alloc, codes, block as u8)?)?;
+    }
+    Ok(stretches)
+}
+
 impl<'a> YardTables<'a> {
     /// The slots, the obstacles and their rows of a yard. They take about 800 bytes for each pair of turned footprints, at
     /// most 18 MB, 12 bytes for each row that is kept, at most 3 MB, and 12 bytes for each start of a block on a plate.
@@ -64,11 +79,13 @@ impl<'a> YardTables<'a> {
     {
         let _yard = codes.yard();
         let slots = all_slots(alloc, codes)?;
+        let stretches = all_stretches(alloc, codes)?;
         let obstacles = Obstacles::new(alloc, codes)?;
         let rows = Rows::new(alloc, codes, obstacles.list.as_slice())?;
         Ok(YardTables {
             codes,
             slots,
+            stretches,
             obstacles,
             rows,
         })
@@ -79,6 +96,19 @@ impl<'a> YardTables<'a> {
         ensures { result.now ≡ self.now.yard }
     {
         self.codes
+    }
+
+    /// The placement of a code of a block, by the stretch that is kept for it.
+    pub(crate) fn place(&self, block: u8, code: u32) -> Placement
+        requires block { block < length self.now.yard.blocks }
+        requires code { code < length (placements self.now.yard block) }
+        ensures value { slice_get (placements self.now.yard block) code ≡ Some result }
+        ensures turn { result.turn < 4 }
+        ensures x { result.x ≤ 400 }
+        ensures y { result.y ≤ 400 }
+    {
+        let stretches = self.stretches.as_slice();
+        place_at(self.codes, &stretches[block as usize], block, code)
     }
 
     /// The slots of a block, the cheapest first.

@@ -11,7 +11,7 @@ ghost use Rattle.tardiness_bounds.specs.Witnesses.{AreFull, HasNoPlace, IsFree, 
 
 use crate::ground::first_clear;
 use crate::lattice::lattice_of;
-use crate::near::{Neighbour, near_to};
+use crate::near::{Neighbour, Neighbours, near_to};
 use crate::slot::Slot;
 use crate::standing::Standing;
 use crate::tables::YardTables;
@@ -116,7 +116,13 @@ pub(crate) fn place_of_slot(slot: Slot) -> Placement
 }
 
 /// The first free placement of a block in a slot, beside the blocks that stand and the pieces.
-fn free_in(tables: &YardTables<'_>, list: &[Standing], block: u8, slot: Slot) -> Option<Placement>
+fn free_in(
+    tables: &YardTables<'_>,
+    list: &[Standing],
+    block: u8,
+    slot: Slot,
+    near: &mut Neighbours,
+) -> Option<Placement>
     requires list { All (IsStanding tables.now.yard) list.now }
     requires few { length list.now ≤ 32 }
     requires block { block < length tables.now.yard.blocks }
@@ -124,8 +130,7 @@ fn free_in(tables: &YardTables<'_>, list: &[Standing], block: u8, slot: Slot) ->
     ensures none { IfNone result (IsFull tables.now.yard list.now block slot) }
     ensures some { IfSome result (IsFree tables.now.yard list.now block slot) }
 {
-    let mut near = ArrayVec::new();
-    near_to(tables, list, place_of_slot(slot), &mut near);
+    near_to(tables, list, place_of_slot(slot), near);
     first_in_slot(tables, near.as_slice(), block, slot)
 }
 
@@ -144,9 +149,10 @@ pub(crate) fn witness_from(
     ensures some { IfSome result (IsWitness tables.now list.now block) }
 {
     let slots = tables.slots(block);
+    let mut near = ArrayVec::new();
     for i in from..slots.len() {
         let slot = slots[i];
-        if let Some(place) = free_in(tables, list, block, slot) {
+        if let Some(place) = free_in(tables, list, block, slot, &mut near) {
             return Some(Witness {
                 slot: i,
                 cost: slot.cost,

@@ -7,16 +7,16 @@ use Rattle.tardiness_bounds.proofs.frontier.standing_at.Goals as goal
 
 pub place-place-requires-clause-block : goal.place-place-requires-clause-block
 place-place-requires-clause-block c =
-    subst (λ (y : PlainYard). c.args.block < length y.blocks) (sym c.codes.ensures) (block_exists c.args.tables.now.yard c.args.block c.requires.0)
+    block_exists c.args.tables.now.yard c.args.block c.requires.0
 
 pub place-place-requires-clause-code : goal.place-place-requires-clause-code
 place-place-requires-clause-code c =
-    subst (λ y. c.args.code < length (placements y c.args.block)) (sym c.codes.ensures) (code_exists c.args.tables.now.yard c.args.block c.args.code c.requires)
+    code_exists c.args.tables.now.yard c.args.block c.args.code c.requires
 
 pub returns-clause-standing : goal.returns-clause-standing
 returns-clause-standing c = record {
   block = block_exists c.args.tables.now.yard c.args.block c.requires.0;
-  code = subst (λ y. slice_get (placements y c.args.block) c.args.code ≡ Some c.place-place.result) c.codes.ensures c.place-place.ensures.value;
+  code = c.place-place.ensures.value;
   turn = c.place-place.ensures.turn;
   x = c.place-place.ensures.x;
   y = c.place-place.ensures.y;

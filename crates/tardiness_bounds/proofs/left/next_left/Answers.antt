@@ -1,16 +1,26 @@
-use Rattle.std.proofs.Common.{subst, ap, ◌∙◌}
+use Rattle.std.proofs.Common.{◌≡◌, ◌<◌, Some, length, sym, subst, ap, ◌∙◌}
+use Rattle.std.specs.Prelude.{slice_get}
+use Rattle.shape_exact.specs.Yards.{PlainYard}
 use Rattle.std.proofs.lemmas.Bool.{iff_false}
-use Rattle.code_table.specs.Placements.{own_cost}
+use Rattle.code_table.specs.Placements.{placements}
 use Rattle.tardiness_bounds.specs.declared.left.Left.TheVariants.{Stands, Free, Never}
 use Rattle.tardiness_bounds.specs.Lefts.{IsLeftBefore}
-use Rattle.tardiness_bounds.proofs.NextLaws.{last_standing, next_full, next_here, next_kept}
+use Rattle.tardiness_bounds.proofs.NextLaws.{last_standing, next_full, next_here, next_kept, own_cost_at}
 use Rattle.tardiness_bounds.proofs.left.next_left.Goals as goal
 
 pub returns-then-block-new : goal.returns-then-block-new
 returns-then-block-new c =
-    next_here c.args.tables.now c.args.list.now c.args.new c.args.block c.own_cost.result c.args.old c.requires.old
+    next_here c.args.tables.now c.args.list.now c.args.new c.args.block c.cost_on.result c.args.old c.requires.old
     (last_standing c.args.tables.now c.args.list.now c.requires.old.before c.args.new c.requires.list c.requires.old.ends)
-    c.if-block-new.true (c.own_cost.ensures.value ∙ ap (λ y. own_cost y c.args.block c.args.new.code) c.codes-codes.ensures)
+    c.if-block-new.true
+    (c.cost_on.ensures.value
+    ∙ sym (own_cost_at c.args.tables.now.yard c.args.block c.args.new.code c.block_at.result.now c.args.new.place
+    (subst (λ (y : PlainYard). slice_get y.blocks c.args.block ≡ Some c.block_at.result.now) c.codes-codes.ensures c.block_at.ensures.value)
+    (subst (λ b. slice_get (placements c.args.tables.now.yard b) c.args.new.code ≡ Some c.args.new.place) (sym c.if-block-new.true)
+    (last_standing c.args.tables.now c.args.list.now c.requires.old.before c.args.new c.requires.list c.requires.old.ends).code)))
+
+pub block_at-requires : goal.block_at-requires
+block_at-requires c = subst (λ (y : PlainYard). c.args.block < length y.blocks) (sym c.codes-codes.ensures) c.requires.block
 
 pub clashes-requires-clause-standing : goal.clashes-requires-clause-standing
 clashes-requires-clause-standing c = last_standing c.args.tables.now c.args.list.now c.requires.old.before c.args.new c.requires.list c.requires.old.ends

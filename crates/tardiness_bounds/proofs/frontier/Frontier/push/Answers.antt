@@ -1,4 +1,5 @@
-use Rattle.std.proofs.Common.{◌<◌, sym, subst, ◌∙◌, arith}
+use Rattle.std.proofs.Common.{◌<◌, ◌≤◌, List, length, ap, sym, subst, ◌∙◌, arith}
+use Rattle.tardiness_bounds.specs.declared.left.Left.{Left}
 use Rattle.std.specs.Prelude.{All}
 use Rattle.std.proofs.lemmas.List.Elements.{All-push}
 use Rattle.plan_rule.specs.Boxes.{LeavesFree}
@@ -9,7 +10,7 @@ use Rattle.tardiness_bounds.specs.Lefts.{AreLefts}
 use Rattle.tardiness_bounds.specs.Stacks.{PlainFrontier}
 use Rattle.tardiness_bounds.specs.Standings.{IsStanding, literals_of}
 use Rattle.tardiness_bounds.proofs.PigeonLaws.{room_left}
-use Rattle.tardiness_bounds.proofs.StackLaws.{pushed_lefts, stack_push}
+use Rattle.tardiness_bounds.proofs.StackLaws.{pushed_lefts, stack_long, stack_push, stack_room}
 use Rattle.tardiness_bounds.proofs.frontier.Frontier.push.Goals as goal
 
 pub push-requires : goal.push-requires
@@ -20,27 +21,40 @@ push-requires c =
     (block_exists c.self.inside.tables.now.yard c.args.block (subst (λ (p : PlainFrontier). c.args.block < blocks (choices p.yard)) (sym c.self.view_is) c.requires.is_code.0)) in
     (omega arith, omega arith)
 
-pub next_level-level-requires-clause-list : goal.next_level-level-requires-clause-list
-next_level-level-requires-clause-list c =
-    subst (All (IsStanding c.self.inside.tables.now.yard)) (sym c.push.ensures.items ∙ sym c.as_slice.ensures.value)
+pub last_from-from-requires : goal.last_from-from-requires
+last_from-from-requires c =
+    subst (λ (ls : List Left). length c.self.inside.tables.now.yard.blocks ≤ length ls) (sym c.as_slice.ensures.value)
+    (stack_long c.self.inside.tables.now c.self.inside.list.items c.self.inside.lefts.items _ c.self.invariant)
+
+pub add_lefts-requires-clause-list : goal.add_lefts-requires-clause-list
+add_lefts-requires-clause-list c =
+    subst (All (IsStanding c.self.inside.tables.now.yard)) (sym c.push.ensures.items ∙ sym c.as_slice-2.ensures.value)
     (All-push (IsStanding c.self.inside.tables.now.yard) c.self.inside.list.items c.standing_at-new.result c.self.invariant.standing c.standing_at-new.ensures.standing)
 
-pub next_level-level-requires-clause-old : goal.next_level-level-requires-clause-old
-next_level-level-requires-clause-old c =
-    pushed_lefts c.self.inside.tables.now c.self.inside.list.items c.as_slice.result.now c.standing_at-new.result c.self.inside.levels.items c.index.result.now
-    c.len-depth.result _ c.self.invariant (c.as_slice.ensures.value ∙ c.push.ensures.items)
+pub add_lefts-requires-clause-old : goal.add_lefts-requires-clause-old
+add_lefts-requires-clause-old c =
+    pushed_lefts c.self.inside.tables.now c.self.inside.list.items c.as_slice-2.result.now c.standing_at-new.result c.self.inside.lefts.items c.last_from-from.result
+    _ c.self.invariant (c.as_slice-2.ensures.value ∙ c.push.ensures.items)
     (subst (LeavesFree (literals_of c.self.inside.list.items)) (sym c.standing_at-new.ensures.block)
     (subst (λ (p : PlainFrontier). LeavesFree p.literals c.args.block) (sym c.self.view_is) c.requires.free))
-    c.len-depth.ensures.value c.index.ensures
+    (c.last_from-from.ensures ∙ ap length c.as_slice.ensures.value)
+
+pub add_lefts-requires-clause-room : goal.add_lefts-requires-clause-room
+add_lefts-requires-clause-room c =
+    stack_room c.self.inside.tables.now c.self.inside.list.items c.self.inside.lefts.items _ c.self.invariant
+    (room_left c.self.inside.tables.now.yard c.self.inside.list.items c.args.block c.self.invariant.standing c.self.invariant.once
+    (subst (λ (p : PlainFrontier). LeavesFree p.literals c.args.block) (sym c.self.view_is) c.requires.free)
+    (block_exists c.self.inside.tables.now.yard c.args.block (subst (λ (p : PlainFrontier). c.args.block < blocks (choices p.yard)) (sym c.self.view_is) c.requires.is_code.0)))
 
 pub invariant_of-self : goal.invariant_of-self
 invariant_of-self c =
-    stack_push c.self.inside.tables.now c.self.inside.list.items c.push.new.self.items c.standing_at-new.result c.self.inside.levels.items c.push-2.new.self.items
-    c.next_level-level.result _ _ c.self.invariant c.push.ensures.items c.in-Ok.ensures.items c.standing_at-new.ensures.standing
+    stack_push c.self.inside.tables.now c.self.inside.list.items c.push.new.self.items c.standing_at-new.result c.self.inside.lefts.items c.add_lefts.new.lefts.items
+    _ _ c.self.invariant c.push.ensures.items c.add_lefts.ensures.kept c.add_lefts.ensures.len
+    (subst (λ fs. AreLefts c.self.inside.tables.now fs c.add_lefts.new.lefts.items (length c.self.inside.lefts.items)) c.as_slice-2.ensures.value c.add_lefts.ensures.lefts)
+    c.standing_at-new.ensures.standing
     (subst (LeavesFree (literals_of c.self.inside.list.items)) (sym c.standing_at-new.ensures.block)
     (subst (λ (p : PlainFrontier). LeavesFree p.literals c.args.block) (sym c.self.view_is) c.requires.free))
     (room_left c.self.inside.tables.now.yard c.self.inside.list.items c.args.block c.self.invariant.standing c.self.invariant.once
     (subst (λ (p : PlainFrontier). LeavesFree p.literals c.args.block) (sym c.self.view_is) c.requires.free)
     (block_exists c.self.inside.tables.now.yard c.args.block (subst (λ (p : PlainFrontier). c.args.block < blocks (choices p.yard)) (sym c.self.view_is) c.requires.is_code.0)))
-    (subst (λ fs. AreLefts c.self.inside.tables.now fs c.next_level-level.result.lefts.items) c.as_slice.ensures.value c.next_level-level.ensures)
-    (let r = c.self.invariant.room in let k = c.push-2.ensures.capacity in omega arith)
+    (let r = c.self.invariant.room in let k = c.add_lefts.ensures.room in omega arith)
