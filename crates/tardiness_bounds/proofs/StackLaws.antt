@@ -130,7 +130,10 @@ pub stack_room : (t : PlainTables) (list : List Standing) (lefts : List Left) (c
     → length lefts + 32 ≤ capacity
 stack_room t list lefts capacity s fewer =
     let few = s.limits.few_blocks in
-    let most : (length list + 1) * length t.yard.blocks ≤ 32 * 32 = mul-le-mul (omega arith) (omega arith) in
+    let up : length list + 1 ≤ 32 = omega arith in
+    let wide : length t.yard.blocks ≤ 32 = omega arith in
+    let most : (length list + 1) * length t.yard.blocks ≤ 32 * 32 =
+    mul-le-mul {n₁ = length list + 1} {m₁ = length t.yard.blocks} {n₂ = 32} {m₂ = 32} up wide in
     let l = s.len in
     let r = s.room in
     omega arith

@@ -22,7 +22,12 @@ fn meets(tables: &YardTables<'_>, i: usize, piece: &Fixed, block: u8, place: Pla
     if !may_meet_piece(place, piece) {
         return false;
     }
-    !is_apart(tables, of_piece(tables, i, piece), block * 4 + place.turn, place)
+    !is_apart(
+        tables,
+        of_piece(tables, i, piece),
+        block * 4 + place.turn,
+        place,
+    )
 }
 
 /// Whether a block at a placement meets no piece.

@@ -12,8 +12,8 @@ ghost use Rattle.tardiness_bounds.specs.Stacks.{CanPush};
 ghost use Rattle.tardiness_bounds.specs.Standings.{IsStanding, StandOnce, literals_of};
 
 use crate::bound::{Bound, bound_of};
-use crate::free_codes::FreeCodes;
 use crate::clear::is_clear;
+use crate::free_codes::FreeCodes;
 use crate::left::{Left, add_lefts, first_lefts};
 use crate::standing::Standing;
 use crate::tables::YardTables;
@@ -97,12 +97,7 @@ fn least_in(
 }
 
 /// The sum of what the blocks cost at least of what is left to them; None where nothing is left to one.
-fn sum_of(
-    tables: &YardTables<'_>,
-    list: &[Standing],
-    lefts: &[Left],
-    from: usize,
-) -> Option<u32>
+fn sum_of(tables: &YardTables<'_>, list: &[Standing], lefts: &[Left], from: usize) -> Option<u32>
     requires list { All (IsStanding tables.now.yard) list.now }
     requires once { StandOnce list.now }
     requires lefts { AreLefts tables.now list.now lefts.now from }
@@ -167,7 +162,13 @@ impl<'a> Frontier<'a> {
         let new = standing_at(self.tables, block, code);
         let from = last_from(self.tables, self.lefts.as_slice());
         self.list.push(new);
-        add_lefts(self.tables, self.list.as_slice(), new, from, &mut self.lefts);
+        add_lefts(
+            self.tables,
+            self.list.as_slice(),
+            new,
+            from,
+            &mut self.lefts,
+        );
     }
 
     /// Whether the literal of the code may be pushed: the code exists, and its block has no literal.
@@ -223,7 +224,13 @@ impl<'a> Frontier<'a> {
     {
         let list = self.list.as_slice();
         let lefts = self.lefts.as_slice();
-        least_in(self.tables, list, lefts, last_from(self.tables, lefts), block)
+        least_in(
+            self.tables,
+            list,
+            lefts,
+            last_from(self.tables, lefts),
+            block,
+        )
     }
 
     /// The next code of a block without a literal, from `code` on, that clashes with no literal, meets no piece and costs at

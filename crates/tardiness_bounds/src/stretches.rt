@@ -18,11 +18,7 @@ pub(crate) struct StretchList {
 }
 
 /// The stretches of a block's codes, of each or of one in so many where it has more than are kept.
-pub(crate) fn stretches_of(
-    alloc: Global,
-    codes: &Codes,
-    block: u8,
-) -> Result<StretchList, NoMemory>
+pub(crate) fn stretches_of(alloc: Global, codes: &Codes, block: u8) -> Result<StretchList, NoMemory>
     requires { block < length codes.now.blocks }
     ensures { IfOk result (λ s. AreStretches codes.now block s) }
 {

@@ -14,11 +14,11 @@ returns-then-meets-clause-no c = λ t none. none c.loop-i.i (c.if-meets.ensures.
 
 pub loop-i-preserved : goal.loop-i-preserved
 loop-i-preserved c = λ j below m. elim (cases_lt j c.loop-i.i) [
-      | inl less ↦ c.loop-i.invariant j less m
-      | inr here ↦
-          let e : j ≡ c.loop-i.i = omega arith in
-          false≢true (c.if-meets.ensures.1 (subst (MeetsAt c.args.tables.now.yard c.args.block c.args.place) e m))
-    ]
+  | inl less ↦ c.loop-i.invariant j less m
+  | inr here ↦
+      let e : j ≡ c.loop-i.i = omega arith in
+      false≢true (c.if-meets.ensures.1 (subst (MeetsAt c.args.tables.now.yard c.args.block c.args.place) e m))
+]
 
 pub returns-clause-yes : goal.returns-clause-yes
 returns-clause-yes c = λ t i m.

@@ -1,4 +1,4 @@
-use Rattle.std.proofs.Common.{◌≡◌, ◌+◌, ◌<◌, ◌≤◌, [], ◌∷◌, Some, length, take, sym, ap, ◌∙◌, length-append, arith}
+use Rattle.std.proofs.Common.{◌≡◌, ◌+◌, ◌<◌, [], ◌∷◌, length, take, get_or, sym, ap, subst, ◌∙◌, length-append, arith}
 use Rattle.std.specs.Prelude.{slice_get}
 use Rattle.std.proofs.lemmas.Option.{slice_get-get_or}
 use Rattle.plan_rule.specs.Choices.{blocks}
@@ -9,8 +9,8 @@ use Rattle.tardiness_bounds.proofs.NextLaws.{each_after}
 use Rattle.tardiness_bounds.proofs.StackLaws.{kept_get, take_front}
 use Rattle.tardiness_bounds.proofs.left.add_lefts.Goals as goal
 
-pub bounds-lefts-from : goal.bounds-lefts-from
-bounds-lefts-from c =
+pub index-requires : goal.index-requires
+index-requires c =
     let e : blocks (choices c.codes.result.now) ≡ blocks (choices c.args.tables.now.yard) = ap (λ y. blocks (choices y)) c.codes.ensures in
     let n = blocks-length c.args.tables.now.yard in
     let v = c.block_count-block-end.ensures.value in
@@ -34,9 +34,10 @@ next_left-left-requires-clause-old c =
       before = c.requires.old.before;
       ends = c.requires.old.ends;
       free = c.requires.old.free;
-      left = c.requires.old.lefts_are.each c.loop-block.block _ below
+      left = subst (IsLeft c.args.tables.now c.requires.old.before c.loop-block.block) (sym c.index.ensures)
+          (c.requires.old.lefts_are.each c.loop-block.block (get_or c.loop-block.lefts.items (c.args.from + c.loop-block.block) c.index.result.now) below
           (kept_get c.args.lefts.now.items c.loop-block.lefts.items (c.args.from + c.loop-block.block) _ c.loop-block.invariant.kept before
-          (slice_get-get_or c.loop-block.lefts.items (c.args.from + c.loop-block.block) _ now));
+          (slice_get-get_or c.loop-block.lefts.items (c.args.from + c.loop-block.block) c.index.result.now now)));
     }
 
 pub loop-block-preserved : goal.loop-block-preserved
