@@ -9,7 +9,7 @@ use Rattle.shape_exact.specs.Yards.{IsYard, PlainYard}
 use Rattle.shape_exact.proofs.EachLaws.{get-append_cases}
 use Rattle.shape_exact.specs.declared.point.Point.{Point}
 use Rattle.minkowski_obstacles.specs.Pairs.{IsEmptyRow, IsRow, Pair}
-use Rattle.lattice_free.specs.declared.stretch.Stretch.{Stretch}
+use Rattle.lattice_free.specs.declared.forbidden.Forbidden.{Forbidden}
 use Rattle.lattice_free.specs.Clear.{IsClear}
 use Rattle.lattice_free.specs.Gaps.{IsBetween}
 use Rattle.lattice_free.proofs.PlaceLaws.{clear_from, overlap_not}
@@ -85,14 +85,14 @@ pub ends_small : (low high : ℤ) → negsuc 1999 ≤ℤ low → low ≤ℤ high
 ends_small low high h k l = (omega (arith, ints), omega (arith, ints))
 
 -- the columns between two ends that were moved to where a footprint stands
-pub moved_none : (low high a b : ℤ) (x pitch columns : ℕ) (r : Option Stretch) → a ≡ low +ℤ pos x → b ≡ high +ℤ pos x
+pub moved_none : (low high a b : ℤ) (x pitch columns : ℕ) (r : Option Forbidden) → a ≡ low +ℤ pos x → b ≡ high +ℤ pos x
     → IfNone r ((k : ℕ) → k < columns → IsBetween a b (k * pitch) → ⊥)
     → IfNone r ((k : ℕ) → k < columns → IsBetween (low +ℤ pos x) (high +ℤ pos x) (k * pitch) → ⊥)
 moved_none low high a b x pitch columns r e f h =
     subst (λ (a : ℤ). IfNone r ((k : ℕ) → k < columns → IsBetween a (high +ℤ pos x) (k * pitch) → ⊥)) e
     (subst (λ (b : ℤ). IfNone r ((k : ℕ) → k < columns → IsBetween a b (k * pitch) → ⊥)) f h)
 
-pub moved_some : (low high a b : ℤ) (x pitch columns : ℕ) (r : Option Stretch) → a ≡ low +ℤ pos x → b ≡ high +ℤ pos x
+pub moved_some : (low high a b : ℤ) (x pitch columns : ℕ) (r : Option Forbidden) → a ≡ low +ℤ pos x → b ≡ high +ℤ pos x
     → IfSome r (λ s. (k : ℕ) → k < columns → ((s.from ≤ k) × (k < s.to)) ↔ IsBetween a b (k * pitch))
     → IfSome r (λ s. (k : ℕ) → k < columns → ((s.from ≤ k) × (k < s.to)) ↔ IsBetween (low +ℤ pos x) (high +ℤ pos x) (k * pitch))
 moved_some low high a b x pitch columns r e f h =

@@ -1,4 +1,4 @@
--- The forbidden stretches of a row, one neighbour after another, and the rows.
+-- The forbidden columns of a row, one neighbour after another, and the rows.
 use Rattle.std.proofs.Common.{◌≡◌, ℕ, ◌+◌, ◌<◌, ◌≤◌, List, [], ◌∷◌, ◌++◌, length, get_or, take, sym, ap, ◌∙◌, subst, inl, inr, arith}
 use Rattle.std.specs.Prelude.{All}
 use Rattle.std.proofs.lemmas.Bool.{cases_lt, cases_order}
@@ -6,7 +6,7 @@ use Rattle.std.proofs.lemmas.List.{length-map, get_or-map}
 use Rattle.shape_exact.specs.Yards.{PlainYard}
 use Rattle.shape_exact.specs.declared.point.Point.{Point}
 use Rattle.minkowski_obstacles.specs.Pairs.{Pair}
-use Rattle.lattice_free.specs.declared.stretch.Stretch.{Stretch}
+use Rattle.lattice_free.specs.declared.forbidden.Forbidden.{Forbidden}
 use Rattle.lattice_free.specs.Clear.{AreClear, AreForbidden, IsClear}
 use Rattle.lattice_free.specs.Gaps.{FitsWithin, Misses}
 use Rattle.lattice_free.specs.Runs.{place}
@@ -26,7 +26,7 @@ obstacle_at yard near moving i d pair at l e f =
     ∙ sym (get_or-map (obstacle_of yard moving) near i d (obstacle_of yard moving d) l)
 
 -- a neighbour that forbids no column
-pub row_past : (yard : PlainYard) (near : List Neighbour) (moving pitch row columns i : ℕ) (d : Neighbour) (pair : Pair) (at : Point) (ss : List Stretch)
+pub row_past : (yard : PlainYard) (near : List Neighbour) (moving pitch row columns i : ℕ) (d : Neighbour) (pair : Pair) (at : Point) (ss : List Forbidden)
     → i < length near → pair ≡ pair_at yard (get_or near i d).footprint moving → at ≡ spot_of (get_or near i d)
     → AreForbidden (take i (obstacles_of yard moving near)) pitch row columns ss
     → ((k : ℕ) → k < columns → IsClear (place pitch row k) pair at) → AreForbidden (take (i + 1) (obstacles_of yard moving near)) pitch row columns ss
@@ -36,7 +36,7 @@ row_past yard near moving pitch row columns i d pair at ss l e f h none =
     (subst (λ (o : Pair × Point). (k : ℕ) → k < columns → IsClear (place pitch row k) o.0 o.1) o none)
 
 -- one that forbids a stretch
-pub row_more : (yard : PlainYard) (near : List Neighbour) (moving pitch row columns i : ℕ) (d : Neighbour) (pair : Pair) (at : Point) (ss more : List Stretch) (s : Stretch)
+pub row_more : (yard : PlainYard) (near : List Neighbour) (moving pitch row columns i : ℕ) (d : Neighbour) (pair : Pair) (at : Point) (ss more : List Forbidden) (s : Forbidden)
     → i < length near → pair ≡ pair_at yard (get_or near i d).footprint moving → at ≡ spot_of (get_or near i d)
     → AreForbidden (take i (obstacles_of yard moving near)) pitch row columns ss → more ≡ ss ++ s ∷ [] → FitsWithin columns s
     → ((k : ℕ) → k < columns → s.from ≤ k → k < s.to → IsClear (place pitch row k) pair at → ⊥)
@@ -58,7 +58,7 @@ pub rows_begin : (fixed : List (Pair × Point)) (pitch columns row column : ℕ)
 rows_begin fixed pitch columns row column j k lj lk on clear = elim on [ inl l ↦ absurd (omega arith) | inr s ↦ (let e = s.0 in absurd (omega arith)) ]
 
 -- one row more
-pub rows_more : (fixed : List (Pair × Point)) (pitch at columns row column from : ℕ) (ss : List Stretch) → HasNoClearFrom fixed pitch at columns row column
+pub rows_more : (fixed : List (Pair × Point)) (pitch at columns row column from : ℕ) (ss : List Forbidden) → HasNoClearFrom fixed pitch at columns row column
     → (at ≡ row → from ≡ column) → (row < at → from ≡ 0)
     → AreForbidden fixed pitch at columns ss → HasNone (λ k. All (Misses k) ss) from columns → HasNoClearFrom fixed pitch (at + 1) columns row column
 rows_more fixed pitch at columns row column from ss h here later are none j k lj lk on clear = elim (cases_lt j at) [
@@ -73,7 +73,7 @@ rows_more fixed pitch at columns row column from ss h here later are none j k lj
 ]
 
 -- the first clear position of the row is the first of all
-pub row_first : (fixed : List (Pair × Point)) (pitch at columns row column from n : ℕ) (ss : List Stretch) → HasNoClearFrom fixed pitch at columns row column
+pub row_first : (fixed : List (Pair × Point)) (pitch at columns row column from n : ℕ) (ss : List Forbidden) → HasNoClearFrom fixed pitch at columns row column
     → (at ≡ row → from ≡ column) → (row < at → from ≡ 0)
     → AreForbidden fixed pitch at columns ss → HasNone (λ k. All (Misses k) ss) from n → n < columns
     → (j k : ℕ) → k < columns → IsOnFrom row column j k → AreClear fixed (place pitch j k) → IsOnFrom at n j k

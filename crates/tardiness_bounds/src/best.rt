@@ -29,7 +29,7 @@ fn starts_of(codes: &Codes, side: &Side<'_>) -> [bool; 400]
     requires { AreExactPlaces codes.now side.now }
     ensures { (d : ℕ) → d < 400 → (slice_index_or result d false ≡ true) ↔ IsStart (choices codes.now) side.now.literals d }
 {
-    let _yard = codes.yard();
+    codes.limits();
     let mut is_start = [false; 400];
     for block in 0..block_count(codes) {
         let place = side.place(block);
@@ -45,7 +45,7 @@ fn dues_of(codes: &Codes, side: &Side<'_>) -> [bool; 400]
     requires { AreExactPlaces codes.now side.now }
     ensures { (d : ℕ) → d < 400 → (slice_index_or result d false ≡ true) ↔ IsDue (choices codes.now) side.now.literals d }
 {
-    let _yard = codes.yard();
+    codes.limits();
     let mut is_due = [false; 400];
     for block in 0..block_count(codes) {
         let place = side.place(block);

@@ -91,7 +91,7 @@ fn least_in(
     ensures least { IsLeastOf (MayFit (choices tables.now.yard) (literals_of list.now) block) ((choices tables.now.yard).cost block) result }
     ensures few { IfSome result (λ n. n ≤ 400000) }
 {
-    let _yard = tables.codes().yard();
+    tables.codes().limits();
     let _slots = tables.slots(block);
     cost_of(lefts[from + block as usize])
 }
@@ -129,7 +129,7 @@ impl<'a> Frontier<'a> {
         ensures yard { IfOk result (λ frontier. frontier.yard ≡ tables.now.yard) }
         ensures empty { IfOk result (λ frontier. frontier.literals ≡ []) }
     {
-        let _yard = tables.codes().yard();
+        tables.codes().limits();
         let lefts = first_lefts(alloc, tables)?;
         Ok(Frontier {
             tables,

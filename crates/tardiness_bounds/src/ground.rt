@@ -12,7 +12,7 @@ use crate::lattice::Lattice;
 use crate::near::Neighbour;
 use crate::tables::YardTables;
 use arrayvec::ArrayVec;
-use lattice_free::{Stretch, columns_between};
+use lattice_free::{Forbidden, columns_between};
 
 /// An end of a row, moved to where a neighbour stands.
 fn moved(end: i32, by: u16) -> i32
@@ -26,14 +26,14 @@ fn moved(end: i32, by: u16) -> i32
 }
 
 /// The columns of a row at which the footprint of a block in a turn is not clear of a neighbour; None where there is none.
-fn stretch_beside(
+fn forbidden_beside(
     tables: &YardTables<'_>,
     n: Neighbour,
     moving: u8,
     pitch: u16,
     row: u16,
     columns: u16,
-) -> Option<Stretch>
+) -> Option<Forbidden>
     requires near { IsNeighbour tables.now.yard n }
     requires moving { moving < turned_count tables.now.yard }
     requires pitch { IsPitch pitch }
@@ -61,19 +61,19 @@ fn forbid(
     pitch: u16,
     row: u16,
     columns: u16,
-    stretches: &mut ArrayVec<Stretch, 80>,
+    forbidden: &mut ArrayVec<Forbidden, 80>,
 )
     requires near { All (IsNeighbour tables.now.yard) near.now }
     requires few { length near.now ≤ 80 }
     requires moving { moving < turned_count tables.now.yard }
     requires pitch { IsPitch pitch }
     requires row { row ≤ 401 }
-    ensures { AreForbidden (obstacles_of tables.now.yard moving near.now) pitch row columns stretches.new.items }
+    ensures { AreForbidden (obstacles_of tables.now.yard moving near.now) pitch row columns forbidden.new.items }
 {
-    stretches.clear();
+    forbidden.clear();
     for n in near {
-        if let Some(s) = stretch_beside(tables, *n, moving, pitch, row, columns) {
-            stretches.push(s);
+        if let Some(s) = forbidden_beside(tables, *n, moving, pitch, row, columns) {
+            forbidden.push(s);
         }
     }
 }
@@ -100,7 +100,7 @@ pub(crate) fn first_clear(
         → AreClear (obstacles_of tables.now.yard moving near.now) (place lattice.pitch j k) → IsOnFrom at.0 at.1 j k) }
 {
     let mut column = from.1;
-    let mut stretches = ArrayVec::new();
+    let mut forbidden = ArrayVec::new();
     for row in from.0..lattice.rows {
         forbid(
             tables,
@@ -109,9 +109,9 @@ pub(crate) fn first_clear(
             lattice.pitch,
             row,
             lattice.columns,
-            &mut stretches,
+            &mut forbidden,
         );
-        if let Some(k) = first_gap(stretches.as_slice(), lattice.columns, column) {
+        if let Some(k) = first_gap(forbidden.as_slice(), lattice.columns, column) {
             return Some((row, k));
         }
         column = 0;

@@ -40,7 +40,7 @@ pub(crate) fn clashes(tables: &YardTables<'_>, f: Standing, block: u8, place: Pl
     requires turn { place.turn < 4 }
     ensures { IsTrue result ↔ ClashesAt tables.now.yard f block place }
 {
-    let _yard = tables.codes().yard();
+    tables.codes().limits();
     if !may_clash(f.place, place) {
         return false;
     }

@@ -56,7 +56,7 @@ fn near_blocks(tables: &YardTables<'_>, list: &[Standing], place: Placement, nea
     ensures each { All (IsNeighbour tables.now.yard) near.new.items }
     ensures few { length near.new.items ≤ 32 }
 {
-    let _yard = tables.codes().yard();
+    tables.codes().limits();
     near.clear();
     for f in list {
         if may_clash(f.place, place) {

@@ -46,7 +46,7 @@ impl<'a> Side<'a> {
         ensures literals { result.literals ≡ part.now }
         ensures places { AreExactPlaces codes.now result }
     {
-        let _yard = codes.yard();
+        codes.limits();
         let mut places = ArrayVec::new();
         for block in 0..block_count(codes) {
             places.push(exact_place(codes, part, block));

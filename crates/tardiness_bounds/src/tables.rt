@@ -77,7 +77,7 @@ impl<'a> YardTables<'a> {
     pub fn new(alloc: Global, codes: &'a Codes) -> Result<YardTables<'a>, NoMemory>
         ensures { IfOk result (λ tables. tables.yard ≡ codes.now) }
     {
-        let _yard = codes.yard();
+        codes.limits();
         let slots = all_slots(alloc, codes)?;
         let stretches = all_stretches(alloc, codes)?;
         let obstacles = Obstacles::new(alloc, codes)?;

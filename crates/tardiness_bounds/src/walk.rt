@@ -127,7 +127,7 @@ fn find(tables: &YardTables<'_>, block: u8, walk: &mut Walk) -> Option<u32>
     ensures at { IfSome result (λ c. (walk.new.from ≡ c + 1) × IsAt walk.new) }
 {
     let codes = tables.codes();
-    let _yard = codes.yard();
+    codes.limits();
     let _count = codes.count(block);
     let stand = &walk.stand;
     let moving = block * 4 + stand.stretch.place.turn;

@@ -52,7 +52,7 @@ fn taken(codes: &Codes, window: Window, block: u8, place: Placement) -> u64
         → result ≡ (choices codes.now).taken window.from window.to block code }
     ensures few { result < 2 ^ 48 }
 {
-    let _yard = codes.yard();
+    codes.limits();
     let first = window.from.max(place.start);
     let last = window.to.min(place.end);
     let days = codes.calendar(place.plate).open_between(first, last);

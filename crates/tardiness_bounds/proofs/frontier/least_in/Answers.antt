@@ -20,7 +20,7 @@ pub returns-clause-least : goal.returns-clause-least
 returns-clause-least c =
     let l = block_exists c.args.tables.now.yard c.args.block c.requires.block in
     let within : c.args.from + c.args.block < length c.args.lefts.now = (let e = c.requires.lefts.len in omega arith) in
-    let is : IsYard c.args.tables.now.yard = subst IsYard c.codes.ensures c.yard-yard.ensures.limits in
+    let is : IsYard c.args.tables.now.yard = subst IsYard c.codes.ensures c.limits.ensures.limits in
     subst (IsLeastOf (MayFit (choices c.args.tables.now.yard) (literals_of c.args.list.now) c.args.block) ((choices c.args.tables.now.yard).cost c.args.block)) (sym c.cost_of.ensures)
     (left_least c.args.tables.now c.args.list.now c.args.block _ is l c.requires.list c.requires.once
     (λ slots block at here. subst (λ (ss : List Slot). AreSlots c.args.tables.now.yard block ss) (same_Some _ slots (sym c.slots-slots.ensures.value ∙ at)) (c.slots-slots.ensures.all block here))
@@ -28,5 +28,5 @@ returns-clause-least c =
 
 pub returns-clause-few : goal.returns-clause-few
 returns-clause-few c =
-    let is : IsYard c.args.tables.now.yard = subst IsYard c.codes.ensures c.yard-yard.ensures.limits in
+    let is : IsYard c.args.tables.now.yard = subst IsYard c.codes.ensures c.limits.ensures.limits in
     least_few c.args.tables.now.yard (literals_of c.args.list.now) c.args.block c.cost_of.result is c.requires.block (returns-clause-least c)

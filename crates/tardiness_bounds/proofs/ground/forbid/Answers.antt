@@ -7,18 +7,18 @@ use Rattle.tardiness_bounds.proofs.ground.forbid.Goals.{in-Some, in_default}
 
 pub loop-n-preserved : goal.loop-n-preserved
 loop-n-preserved c =
-    let few = c.loop-n.invariant.few in elim c.match-stretch_beside.branch [
+    let few = c.loop-n.invariant.few in elim c.match-forbidden_beside.branch [
       | in-Some w ↦ record {
-        few = let n : length c.match-stretch_beside.stretches.items ≡ length c.loop-n.stretches.items + 1 = ap (λ v. length v.items) w.stretches-is ∙ w.push.ensures.len in omega arith;
+        few = let n : length c.match-forbidden_beside.forbidden.items ≡ length c.loop-n.forbidden.items + 1 = ap (λ v. length v.items) w.forbidden-is ∙ w.push.ensures.len in omega arith;
         forbidden = row_more c.args.tables.now.yard c.args.near.now c.args.moving c.args.pitch c.args.row c.args.columns c.loop-n.n-index _ _ _
-            c.loop-n.stretches.items _ w.in-Some.s c.loop-n-test.true refl refl c.loop-n.invariant.forbidden
-            (ap (λ v. v.items) w.stretches-is ∙ w.push.ensures.items) w.in-Some.ensures.fits w.in-Some.ensures.held w.in-Some.ensures.clear;
+            c.loop-n.forbidden.items _ w.in-Some.s c.loop-n-test.true refl refl c.loop-n.invariant.forbidden
+            (ap (λ v. v.items) w.forbidden-is ∙ w.push.ensures.items) w.in-Some.ensures.fits w.in-Some.ensures.held w.in-Some.ensures.clear;
       }
       | in_default w ↦ record {
-        few = let n : length c.match-stretch_beside.stretches.items ≡ length c.loop-n.stretches.items = ap (λ v. length v.items) w.stretches-is in omega arith;
+        few = let n : length c.match-forbidden_beside.forbidden.items ≡ length c.loop-n.forbidden.items = ap (λ v. length v.items) w.forbidden-is in omega arith;
         forbidden = row_past c.args.tables.now.yard c.args.near.now c.args.moving c.args.pitch c.args.row c.args.columns c.loop-n.n-index _ _ _
-            c.match-stretch_beside.stretches.items c.loop-n-test.true refl refl
-            (subst (λ v. AreForbidden (take c.loop-n.n-index (obstacles_of c.args.tables.now.yard c.args.moving c.args.near.now)) c.args.pitch c.args.row c.args.columns v.items) (sym w.stretches-is) c.loop-n.invariant.forbidden)
+            c.match-forbidden_beside.forbidden.items c.loop-n-test.true refl refl
+            (subst (λ v. AreForbidden (take c.loop-n.n-index (obstacles_of c.args.tables.now.yard c.args.moving c.args.near.now)) c.args.pitch c.args.row c.args.columns v.items) (sym w.forbidden-is) c.loop-n.invariant.forbidden)
             w.in_default.ensures.none;
       }
     ]

@@ -18,7 +18,7 @@ loop-f-init c = record {
 
 pub of_standing-requires-clause-block : goal.of_standing-requires-clause-block
 of_standing-requires-clause-block c =
-    block_small c.args.tables.now.yard c.codes.result.now c.args.list.now c.loop-f.f-index _ c.yard-yard.ensures.limits c.codes.ensures c.requires.list c.loop-f-test.true
+    block_small c.args.tables.now.yard c.codes.result.now c.args.list.now c.loop-f.f-index _ c.limits.ensures.limits c.codes.ensures c.requires.list c.loop-f-test.true
 
 pub of_standing-requires-clause-turn : goal.of_standing-requires-clause-turn
 of_standing-requires-clause-turn c = (c.requires.list c.loop-f.f-index _ c.loop-f-test.true).turn

@@ -5,7 +5,7 @@ use Rattle.lattice_free.proofs.PlaceLaws.{clear_from, row_clear, row_free, row_h
 use Rattle.tardiness_bounds.specs.Footprints.{pair_at}
 use Rattle.tardiness_bounds.specs.Neighbours.{spot_of}
 use Rattle.tardiness_bounds.proofs.KeptLaws.{ends_fit, ends_small, moved_none, moved_some}
-use Rattle.tardiness_bounds.proofs.ground.stretch_beside.Goals as goal
+use Rattle.tardiness_bounds.proofs.ground.forbidden_beside.Goals as goal
 
 pub returns-in-None-clause-none : goal.returns-in-None-clause-none
 returns-in-None-clause-none c = λ k l.
