@@ -5,6 +5,7 @@ ghost use Rattle.plan_rule.specs.Yards.{choices};
 ghost use Rattle.branch_workers.specs.Stock.{IsStocked};
 ghost use Rattle.branch_workers.specs.Work.{HasSearched, IsEmptyRegion, IsKnown, IsSound};
 
+use crate::opening::start_of;
 use crate::regions::is_empty;
 use crate::seat_bar::SeatBar;
 use branch_core::{Report, solve_with};
@@ -26,6 +27,7 @@ fn search(
     tables: &YardTables<'_>,
     board: &Board,
     job: Job,
+    bar: u64,
     seat: &mut Seat,
     store: &mut Nogoods,
     log: &mut Log,
@@ -43,12 +45,15 @@ fn search(
         (HasSearched (choices codes.now) log.old log.new store.old store.new seat.old.seen seat.new.seen) }
 {
     keys_are_small(codes);
-    let mut bar = SeatBar::beside(board, seat);
-    let report = solve_with(alloc, codes, tables, hints, job, &mut bar, store, log, None);
+    let start = start_of(alloc, codes, tables, job, bar)?;
+    let mut bars = SeatBar::beside(board, seat);
+    let report = solve_with(
+        alloc, codes, tables, hints, job, &mut bars, store, log, start,
+    );
     let SeatBar {
         board: _,
         seat: own,
-    } = bar;
+    } = bars;
     board.join(seat, own);
     report
 }
@@ -60,6 +65,7 @@ pub(crate) fn report_on(
     tables: &YardTables<'_>,
     board: &Board,
     job: Job,
+    bar: u64,
     seat: &mut Seat,
     store: &mut Nogoods,
     log: &mut Log,
@@ -84,5 +90,7 @@ pub(crate) fn report_on(
             refutation: 0,
         });
     }
-    search(alloc, codes, tables, board, job, seat, store, log, hints)
+    search(
+        alloc, codes, tables, board, job, bar, seat, store, log, hints,
+    )
 }

@@ -93,6 +93,7 @@ fn take_job(
         tables,
         board,
         part,
+        bar,
         &mut worker.seat,
         &mut worker.store,
         &mut worker.log,
