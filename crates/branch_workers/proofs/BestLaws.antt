@@ -8,8 +8,8 @@ use Rattle.branch_core.specs.declared.report.Report.{Report}
 use Rattle.branch_core.specs.Solved.{report_of}
 use Rattle.plan_rule.specs.Choices.{Choices}
 use Rattle.plan_rule.specs.Laws.{AreSmall}
-use Rattle.plan_rule.specs.Paths.{key, IsInRegion, Tile}
-use Rattle.plan_rule.specs.Plans.{IsPlan, IsFeasible, IsBefore, IsBest}
+use Rattle.plan_rule.specs.Paths.{key, Tile}
+use Rattle.plan_rule.specs.Plans.{IsPlan, IsBefore, IsBest}
 use Rattle.plan_rule.specs.Reports.{JobReport, IsBar, IsReached, IsLeast, IsBestOf, ReportsGiveBest}
 use Rattle.plan_rule.proofs.OrderLaws.{before_trans}
 use Rattle.branch_workers.specs.Best.{IsConsidered}
@@ -67,14 +67,6 @@ pub considered : (c : Choices) (rs : List Report) (i : ℕ) (d : Report) (old ne
 considered c rs i d old new l of is =
     let r = get_or rs i d in
     subst (λ (ts : List JobReport). IsBestOf c ts new) (sym (ap (map report_of) (take_push rs i d l) ∙ map-append report_of (take i rs) (r ∷ []))) (best_push c (map report_of (take i rs)) (report_of r) r.best old new refl of is)
-
--- what is reported is a plan
-pub reached_plan : (c : Choices) (r : Report) → IsReached c (report_of r) → IfSome r.best (IsPlan c)
-reached_plan c r reached = go r.best reached
-  where
-    go : (b : Option (List ℕ)) → ((p : List ℕ) → b ≡ Some p → IsFeasible c p × IsInRegion c r.job p × (r.seen ≤ key c p)) → IfSome b (IsPlan c)
-    go None h = tt
-    go (Some p) h = (h p refl).0.is_plan
 
 -- and so is the best so far
 pub best_plan : (c : Choices) (rs : List Report) (i : ℕ) (b : Option (List ℕ)) → All (λ (r : Report). IsReached c (report_of r)) rs → IsBestOf c (map report_of (take i rs)) b → IfSome b (IsPlan c)

@@ -21,7 +21,7 @@ use Rattle.incumbent_word.specs.Sittings.{Place, Sitting}
 use Rattle.refutation_log.specs.declared.record.Record.{Record}
 use Rattle.plan_rule.specs.Jobs.{IsJob}
 use Rattle.branch_workers.proofs.RoundLaws.{map_length, map-set}
-use Rattle.branch_workers.specs.Gather.{only, held, Pile, IsHeld, IsGathering, unreached, IsReady, AreReady, popped_by, stolen_from, IsFresh, spot_of, reported_by, reports_by, IsAccounted, IsHonest, IsIdleWorker, IsMadeFor, IsTold, IsReporting, owner_of, IsBalanced, AreTold}
+use Rattle.branch_workers.specs.Gather.{only, held, Pile, IsHeld, IsGathering, unreached, IsReady, AreReady, popped_by, stolen_from, IsFresh, spot_of, reported_by, IsAccounted, IsHonest, IsIdleWorker, IsMadeFor, IsTold, IsReporting, owner_of, IsBalanced, AreTold}
 
 -- lists that look the same through a map look the same through what is read off it
 map_via : {X U Y : Type 0} (u : X → U) (g : U → Y) (xs : List X) (ys : List X) → map u xs ≡ map u ys → map (λ x. g (u x)) xs ≡ map (λ x. g (u x)) ys
@@ -232,10 +232,6 @@ one_reported old now all next i d w h l is same = record {
 pub none_reported : (old now : List Worker) (all : List Report) (i : ℕ) (d w : Worker) → IsReporting old now all i → i < length now → owner_of w ≡ owner_of (get_or now i d) → map owner_of (set now i w) ≡ map owner_of old
 none_reported old now all i d w h l same = map-set owner_of now i w d l same ∙ h.owners
 
-pub all_reported : (old now : List Worker) (all : List Report) (i : ℕ) → IsReporting old now all i → i ≡ length old → (f : Job → ℕ) → sum_by f (map job_of_report all) ≡ reports_by f old
-all_reported old now all i h e f =
-    let a = h.weighed f in let b = ap (reports_by f) (ap (λ n. drop n old) e ∙ drop_all old) in omega arith
-
 pub run_sizes : (ws0 ws1 ws2 ws3 : List Worker) (piles0 piles3 : List Pile) → map unpushed ws1 ≡ map unpushed ws0 → map spot_of ws2 ≡ map spot_of ws1 → IsGathering ws2 ws3 piles0 piles3 (length ws2)
     → (length ws3 ≡ length ws0) × (length piles3 ≡ length piles0)
 run_sizes ws0 ws1 ws2 ws3 piles0 piles3 e f g = ((let a = g.workers_are in let b = length_via unpushed ws1 ws0 e in let c = length_via spot_of ws2 ws1 f in omega arith), g.size)
@@ -282,16 +278,6 @@ back_tiled ws piles n m zs qs all e f b paid =
     tiled ws piles all b (λ h.
     let a = paid h in
     let p = ap (pushed_by h) (take_all n ws zs e) in let q = ap (popped_by h) (take_all n ws zs e) in let r = ap (stolen_from h) (take_all m piles qs f) in omega arith)
-
-pub balanced_if : {E : Type 0} (r : Result (List Report) E) (ws3 ws4 : List Worker) (piles : List Pile) → IsTold ws3 piles → map owner_of ws4 ≡ map owner_of ws3
-    → IfOk r (λ v. (x : ℕ) → times x (map job_of_report v) ≡ reported_by x ws3) → IfOk r (λ v. IsBalanced v ws4 piles)
-balanced_if (Ok v) ws3 ws4 piles t e h = balanced ws3 ws4 piles v t e h
-balanced_if (Err x) ws3 ws4 piles t e h = tt
-
-pub back_tiled_if : {E : Type 0} (r : Result (List Report) E) (ws : List Worker) (piles : List Pile) (n m : ℕ) (zs : List Worker) (qs : List Pile) → length ws ≡ n → length piles ≡ m → IfOk r (λ v. IsBalanced v ws piles)
-    → ((h : Job → ℕ) → pushed_by h (take n (ws ++ zs)) ≡ popped_by h (take n (ws ++ zs)) + stolen_from h (take m (piles ++ qs))) → IfOk r (λ v. Tile (map job_of_report v))
-back_tiled_if (Ok v) ws piles n m zs qs e f b paid = back_tiled ws piles n m zs qs v e f b paid
-back_tiled_if (Err x) ws piles n m zs qs e f b paid = tt
 
 -- one worker's work, as that of a list
 pub one_worked : {X E : Type 0} (r : Result X E) (brd : Place) (c : Choices) (split : ℕ) (ws : List Worker) (d w : Worker) → length ws ≡ 1 → All (IsFresh brd) ws
@@ -343,11 +329,6 @@ all_told c ws3 ws4 all honest from same = record {
       let seat_is : (get_or ws4 j w).seat ≡ w.seat = ap (λ (o : Owned × Sitting). o.1) (at_via owner_of ws4 ws3 j w w same in4) ∙ ap (λ (u : Worker). u.seat) at in
       (get_or ws4 j w, Contains-get_or ws4 j w in4, subst (λ (s : Sitting). Contains s.seen r.seen) (sym seat_is) had);
 }
-
-pub told_of_all : {E : Type 0} (r : Result (List Report) E) (c : Choices) (ws3 ws4 : List Worker) → All (IsHonest c) ws3 → map owner_of ws4 ≡ map owner_of ws3
-    → IfOk r (λ v. (r : Report) → Contains v r → (w : Worker) × Contains ws3 w × Contains w.reports r) → IfOk r (λ v. AreTold c v ws4)
-told_of_all (Ok v) c ws3 ws4 honest same h = all_told c ws3 ws4 v honest h same
-told_of_all (Err x) c ws3 ws4 honest same h = tt
 
 pub still_seated_too : (brd : Place) (ws3 ws4 : List Worker) → map owner_of ws4 ≡ map owner_of ws3 → All (λ (w : Worker). w.seat.place ≡ brd) ws3 → All (λ (w : Worker). w.seat.place ≡ brd) ws4
 still_seated_too brd ws3 ws4 e all = all_via owner_of (λ (o : Owned × Sitting). o.1.place ≡ brd) ws4 ws3 e all

@@ -15,9 +15,6 @@ use Rattle.branch_workers.specs.Making.{IsHired, AreHired, reachless, IsLent, Is
 use Rattle.branch_workers.specs.declared.worker.Worker.{Worker}
 use Rattle.branch_workers.proofs.RoundLaws.{map-set, default, map_length}
 
-abbrev reaches_of : Worker → List Reaching
-reaches_of w = w.reaches.items
-
 -- where a worker is held at a place of a changed list
 held_set : (ws : List Worker) (j : ℕ) (w : Worker) (r : Reaching) → IsHeld (set ws j w) r → IsHeld ws r ⊎ Contains w.reaches.items r
 held_set ws j w r (u, (k, l, at), i) = elim (cases_eq k j) [
@@ -51,22 +48,6 @@ one_lent first main main' old now n j d w h l t low =
         ]
       ];
     }
-
-pub none_lent : (first : Reaching) (old : List Worker) → IsShared first first old old 0
-none_lent first old = record { deque = refl; number = refl; stolen = refl; parts = omega arith; size = refl; rest = refl; held_is = λ g. omega arith; from = λ r i. inl i }
-
-pub none_shared : (mains : List Reaching) (old : List Worker) → AreShared mains mains old old 0
-none_shared mains old = record {
-  sizes = (refl, refl);
-  rest = refl;
-  held_is = λ g. let z : (length old - 1) * sum_by (λ (m : Reaching). g (new_reach m)) (take 0 mains) ≡ 0 = zero_times (length old - 1) in omega arith;
-  from = λ r i. inl i;
-  done = λ i d l. absurd (omega arith);
-  untouched = λ i d l. refl;
-}
-  where
-    zero_times : (n : ℕ) → n * 0 ≡ 0
-    zero_times n = omega arith
 
 -- one more reach is shared
 pub one_shared : (mains now_mains : List Reaching) (old now now' : List Worker) (k : ℕ) (d main' : Reaching) → AreShared mains now_mains old now k → k < length now_mains → All (λ (r : Reaching). r.parts ≡ 16) mains
@@ -143,9 +124,6 @@ one_hired board ws ms w m n h one = record {
     last_of [] x d (suc k) e = absurd (omega arith)
     last_of (y ∷ xs) x d zero e = absurd (omega arith)
     last_of (y ∷ xs) x d (suc k) e = last_of xs x d k (omega arith)
-
-pub none_hired : (board : Place) (ws : List Worker) (ms : List Reaching) → ws ≡ [] → ms ≡ [] → AreHired board ws ms 0
-none_hired board ws ms e f = record { sizes = (ap length e, ap length f); each = λ k d e l. absurd (omega arith) }
 
 pub one_hired_as : (board : Place) (ws ws' : List Worker) (ms ms' : List Reaching) (w : Worker) (m : Reaching) (n : ℕ) → AreHired board ws ms n → IsHired board n w m → ws' ≡ ws ++ w ∷ [] → ms' ≡ ms ++ m ∷ [] → AreHired board ws' ms' (n + 1)
 one_hired_as board ws ws' ms ms' w m n h one e f = subst (λ (l : List Worker). AreHired board l ms' (n + 1)) (sym e) (subst (λ (l : List Reaching). AreHired board (ws ++ w ∷ []) l (n + 1)) (sym f) (one_hired board ws ms w m n h one))

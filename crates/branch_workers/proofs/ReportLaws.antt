@@ -1,11 +1,10 @@
 -- The report of a solved job, and of a job without a plan.
-use Rattle.std.proofs.Common.{◌≡◌, ℕ, suc, ◌<◌, ◌≤◌, List, [], ◌∷◌, ◌++◌, length, Option, Some, None, Result, Ok, Err, ◌⊎◌, refl, sym, ap, ◌∙◌, subst, inl, inr, arith, append-nil}
+use Rattle.std.proofs.Common.{◌≡◌, ℕ, suc, ◌<◌, ◌≤◌, List, [], ◌∷◌, ◌++◌, length, Option, Some, None, Result, Ok, Err, ◌⊎◌, refl, sym, ap, ◌∙◌, subst, inl, inr, arith}
 use Rattle.std.specs.Prelude.{IfOk, slice_get, ◌^◌}
 use Rattle.shape_exact.specs.declared.memory.NoMemory.{NoMemory}
 use Rattle.std.specs.List.{All, Contains}
 use Rattle.std.proofs.lemmas.Bool.{cases_lt}
 use Rattle.std.proofs.lemmas.List.Elements.{All-weaker, Contains-push, Contains-append_left, Contains-append_right}
-use Rattle.std.proofs.lemmas.Option.{none-some}
 use Rattle.branch_core.specs.declared.report.Report.{Report}
 use Rattle.branch_core.specs.Proper.{AreProper}
 use Rattle.branch_core.specs.Solved.{IsRefutation, IsSolvable, IsSolved, report_of}
@@ -151,14 +150,6 @@ solved_sound c job bar old store seen new r low stocked h = record { reached = h
 abbrev pub empty_report : Job → ℕ → Report
 empty_report job seen = record { job = job; best = None; seen = seen; refutation = 0 }
 
--- a job without a plan
-pub empty_sound : (c : Choices) (job : Job) (seen : ℕ) → IsEmptyRegion c job → IsBar c seen → IsSound c (empty_report job seen)
-empty_sound c job seen (none, has) bar = record {
-  reached = λ p e. absurd (none-some p e);
-  least = λ q feasible in'. absurd (none q in');
-  bar = bar;
-}
-
 pub empty_searched : (c : Choices) (log : List Record) (store : PlainStore) (job : Job) (k : ℕ) (seen seen' : List ℕ) → IsEmptyRegion c job → seen' ≡ seen ++ k ∷ []
     → IsStocked c log store seen → HasSearched c log log store store seen seen' (empty_report job k)
 empty_searched c log store job k seen seen' (none, has) more stocked = record {
@@ -191,11 +182,6 @@ pub sound_if : (c : Choices) (job : Job) (bar : ℕ) (old : List Record) (store 
     → IfOk result (λ r. IsSolved c job (state bar None old store) (state bar' r.best log store') r) → IfOk result (IsSound c)
 sound_if c job bar old store seen log store' bar' (Ok r) low stocked h = solved_sound c job bar old store seen (state bar' r.best log store') r low stocked h
 sound_if c job bar old store seen log store' bar' (Err e) low stocked h = tt
-
-pub job_if : (c : Choices) (job : Job) (old : State) (log : List Record) (store' : PlainStore) (bar' : ℕ) (result : Result Report NoMemory)
-    → IfOk result (λ r. IsSolved c job old (state bar' r.best log store') r) → IfOk result (λ (r : Report). r.job ≡ job)
-job_if c job old log store' bar' (Ok r) h = h.job_is
-job_if c job old log store' bar' (Err e) h = tt
 
 -- a bar of a seat's board is one of the yard
 pub bar_here : (a b : Place) (yard : PlainYard) (n : ℕ) → a ≡ b → b.yard ≡ yard → IsBar (choices a.yard) n → IsBar (choices yard) n

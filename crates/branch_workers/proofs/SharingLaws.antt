@@ -1,18 +1,16 @@
 -- What a worker posts, and what it imports.
-use Rattle.std.proofs.Common.{◌≡◌, ℕ, zero, suc, ◌+◌, ◌-◌, ◌^◌, ◌<◌, ◌≤◌, List, [], ◌∷◌, ◌++◌, get_or, length, map, take, false, Option, Some, None, ◌⊎◌, refl, sym, ap, ◌∙◌, subst, inl, inr, arith, length-append}
+use Rattle.std.proofs.Common.{◌≡◌, ℕ, zero, suc, ◌+◌, ◌-◌, ◌^◌, ◌<◌, ◌≤◌, List, [], ◌∷◌, ◌++◌, get_or, length, map, take, false, Option, Some, None, sym, ap, ◌∙◌, subst, inl, inr, arith, length-append}
 use Rattle.std.specs.Prelude.{slice_get}
 use Rattle.std.specs.List.{All, Contains}
-use Rattle.std.proofs.lemmas.Bool.{cases_lt}
 use Rattle.std.proofs.lemmas.List.{length-take}
 use Rattle.std.proofs.lemmas.List.Elements.{All-append, All-contains, All-cons, All-nil, All-weaker, Contains-push}
-use Rattle.std.proofs.lemmas.Option.{none-some, same_Some, slice_get-get_or, slice_get_within}
+use Rattle.std.proofs.lemmas.Option.{same_Some, slice_get-get_or, slice_get_within}
 use Rattle.shape_exact.specs.Yards.{PlainYard}
 use Rattle.plan_rule.specs.declared.literal.Literal.{Literal}
-use Rattle.plan_rule.specs.Boxes.{AreAmong, Covers, Holds, IsBox}
-use Rattle.plan_rule.specs.Choices.{Choices, blocks, count}
+use Rattle.plan_rule.specs.Boxes.{AreAmong, Holds, IsBox}
+use Rattle.plan_rule.specs.Choices.{Choices, blocks}
 use Rattle.plan_rule.specs.Laws.{AreSmall}
-use Rattle.plan_rule.specs.Paths.{IsWithin, key}
-use Rattle.plan_rule.specs.Plans.{IsBest, IsFeasible}
+use Rattle.plan_rule.specs.Paths.{IsWithin}
 use Rattle.plan_rule.specs.Reports.{IsBar}
 use Rattle.plan_rule.specs.Yards.{choices}
 use Rattle.refutation_log.specs.declared.record.Record.{Record}
@@ -24,20 +22,18 @@ use Rattle.nogood_store.specs.declared.nogood.Nogood.{Nogood}
 use Rattle.nogood_store.specs.Hits.{PlainStore}
 use Rattle.branch_kernel.specs.Clean.{IsClean, Leads}
 use Rattle.branch_kernel.specs.Known.{AreKnown}
-use Rattle.branch_kernel.specs.Nodes.{IsPlace}
-use Rattle.branch_kernel.specs.Rivals.{IsGood, IsRival, Settles}
+use Rattle.branch_kernel.specs.Rivals.{IsRival, Settles}
 use Rattle.branch_kernel.specs.Stored.{IsKept, IsStored, IsTagged}
 use Rattle.branch_kernel.proofs.CoverLaws.{covers_self, exist-box}
-use Rattle.branch_kernel.proofs.GrowthLaws.{clean_later, settles_falls, slice_get-more}
+use Rattle.branch_kernel.proofs.GrowthLaws.{clean_later}
 use Rattle.branch_kernel.proofs.NodeLaws.{node_is_box}
 use Rattle.branch_core.specs.Proper.{AreProper}
-use Rattle.incumbent_word.specs.Calls.{IsFetched, IsPosted}
+use Rattle.incumbent_word.specs.Calls.{IsFetched}
 use Rattle.incumbent_word.specs.Sittings.{Place, Sitting}
 use Rattle.incumbent_word.specs.declared.slots.Fetched.{Fetched}
 use Rattle.incumbent_word.specs.declared.slots.Fetched.TheVariants as fetched
-use Rattle.incumbent_word.specs.declared.slots.Posted.{Posted}
 use Rattle.incumbent_word.specs.declared.slots.Posted.TheVariants as posted
-use Rattle.incumbent_word.specs.Sharing.{IsClearUpTo, IsShareable}
+use Rattle.incumbent_word.specs.Sharing.{IsShareable}
 use Rattle.log_parts.specs.Picked.{IsDerivation}
 use Rattle.log_parts.proofs.PartLaws.{read_at}
 use Rattle.branch_workers.specs.Stock.{IsImported, IsLastKept, IsNamed, IsPostable, IsStorable, IsStocked}
@@ -251,17 +247,6 @@ imported_stocked yard key' capsule log whole store store' seen seen' some_record
     new_clean n m r num last at =
         let (j, s, more, at_s, same, low) = last_of_whole log capsule.log whole num r imp.whole some_records last at in
         imported_clean c n log capsule.log whole num imp.whole low (omega arith) (λ t within. h.steps t (within_more c n capsule.bar t (omega arith) fits within))
-
--- a post changes neither the board of a seat nor what it has seen
-pub posted_place : (slot : ℕ) (capsule : PlainCapsule) (old new : Sitting) (p : Posted) → IsPosted slot capsule old p new → new.place ≡ old.place
-posted_place slot capsule old new (posted.Busy back) h = ap (λ (s : Sitting). s.place) h.0
-posted_place slot capsule old new posted.Done h = ap (λ (s : Sitting). s.place) h
-posted_place slot capsule old new (posted.Replaced found) h = ap (λ (s : Sitting). s.place) h.0
-
-pub posted_seen : (slot : ℕ) (capsule : PlainCapsule) (old new : Sitting) (p : Posted) → IsPosted slot capsule old p new → new.seen ≡ old.seen
-posted_seen slot capsule old new (posted.Busy back) h = ap (λ (s : Sitting). s.seen) h.0
-posted_seen slot capsule old new posted.Done h = ap (λ (s : Sitting). s.seen) h
-posted_seen slot capsule old new (posted.Replaced found) h = ap (λ (s : Sitting). s.seen) h.0
 
 -- the last record's box is stored, or not
 pub last_kept : (c : Choices) (records log : List Record) (num : ℕ) (r : Record) (part : List Literal) (old new : List Nogood) → records ≡ log → num + 1 ≡ length log → r ≡ get_or records num r → part ≡ result_of c r

@@ -156,10 +156,6 @@ next_taken log log1 log2 leaves leaves1 leaves2 ws i w l at before jobs shown ex
     more : take (i + 1) ws ≡ take i ws ++ w ∷ []
     more = ap (λ m. take m ws) (let e : i + 1 ≡ suc i = omega arith in e) ∙ take_more ws i w l at
 
--- each worker's log is taken
-pub each_taken : (log whole : List Record) (leaves all : List Leaf) (ws : List Worker) (i : ℕ) → length ws ≤ i → AreTaken log leaves (take i ws) whole all → AreTaken log leaves ws whole all
-each_taken log whole leaves all ws i l taken = subst (λ (t : List Worker). AreTaken log leaves t whole all) (take_whole ws i l) taken
-
 pub next_list_taken : (log log1 log2 : List Record) (leaves leaves1 leaves2 : List Leaf) (ws : List Worker) (i : ℕ) (w : Worker) (rs : List Report) → i < length ws → w ≡ get_or ws i w → rs ≡ w.reports
     → AreTaken log leaves (take i ws) log1 leaves1 → map job_of leaves2 ≡ map job_of leaves1 ++ map job_of_report rs
     → KeepsLeaves log1 w.log log2 leaves1 rs leaves2 → KeepsExisting log1 w.log log2 → KeepsAllSteps log1 w.log log2 → AreTaken log leaves (take (i + 1) ws) log2 leaves2

@@ -2,7 +2,7 @@
 use Rattle.std.proofs.Common.{◌≡◌, ℕ, ◌+◌, ◌<◌, ◌≤◌, List, [], ◌∷◌, ◌++◌, map, ◌⊎◌, refl, sym, ap, ◌∙◌, subst, inl, inr, arith, append_assoc, append-nil}
 use Rattle.std.specs.List.{sum_by}
 use Rattle.std.proofs.lemmas.List.Sums.{sum_by-cons, sum_by_push}
-use Rattle.std.proofs.lemmas.List.Elements.{All-nil, All-append, All-push, All-weaker}
+use Rattle.std.proofs.lemmas.List.Elements.{All-nil, All-append, All-push}
 use Rattle.plan_rule.specs.declared.job.Job.{Job}
 use Rattle.plan_rule.specs.Choices.{Choices}
 use Rattle.branch_core.specs.declared.report.Report.{Report}
@@ -22,9 +22,6 @@ grown_push P old new x (more, is, all) h = (more ++ x ∷ [], ap (λ l. l ++ x �
 pub grown_more : {X : Type 0} (P : X → Type 0) (a b c : List X) → Grown P a b → Grown P b c → Grown P a c
 grown_more P a b c (more, is, all) (more', is', all') =
     (more ++ more', is' ∙ ap (λ l. l ++ more') is ∙ append_assoc a more more', All-append P more more' all all')
-
-pub grown_weaker : {X : Type 0} (P Q : X → Type 0) (a b : List X) → ((x : X) → P x → Q x) → Grown P a b → Grown Q a b
-grown_weaker P Q a b f (more, is, all) = (more, is, All-weaker P Q f more all)
 
 -- an upper half is pushed, and the lower one stays in hand
 pub half_pushed : (x : ℕ) (job part : Job) (old now : List Job) → part.length < 32
