@@ -78,7 +78,7 @@ fn collect(alloc: Global, codes: &Codes, workers: &mut [Worker]) -> Result<Colle
         → (w : Worker) × Contains workers.old w × Contains w.reports r) }
     ensures collected { IfOk result (λ v. AreCollected (choices codes.now) v.reports v.log v.leaves.items) }
 {
-    let _yard = codes.yard();
+    codes.limits();
     let mut log = Log::new(alloc);
     let mut leaves = Vec::new(alloc);
     take_logs(alloc, workers, &mut log, &mut leaves)?;
