@@ -1,5 +1,5 @@
 -- A branch over codes of block 1 beside block 0 at one code, where each of them clashes or costs too much, may be shared.
-use Rattle.std.proofs.Common.{◌≡◌, ◌≢◌, ℕ, zero, suc, ◌+◌, ◌/◌, ◌^◌, ◌<◌, ◌≤◌, ◌⊎◌, List, [], ◌∷◌, All, ◌++◌, ◌-◌, length, Contains, Bool, true, false, Option, Result, Ok, Some, refl, sym, ap, ◌∙◌, subst, inl, inr, arith}
+use Rattle.std.proofs.Common.{◌≡◌, ◌≢◌, ℕ, zero, suc, ◌+◌, ◌/◌, ◌^◌, ◌<◌, ◌≤◌, ◌⊎◌, List, [], ◌∷◌, All, ◌++◌, ◌-◌, length, Contains, Bool, true, false, Option, Result, Ok, Some, refl, sym, ap, ◌∙◌, subst, inl, inr, le_refl, arith}
 use Rattle.std.specs.Prelude.{◌==◌, ◌&&◌, if◌then◌else◌, is_ok, IfOk}
 use Rattle.std.proofs.lemmas.Bool.{eqb-true, and_parts}
 use Rattle.std.proofs.lemmas.List.Elements.{All-nil, All-cons, All-head, All-tail, All-push, Contains-push}
@@ -10,8 +10,8 @@ use Rattle.plan_rule.specs.declared.literal.Literal.{Literal}
 use Rattle.plan_rule.specs.Choices.{Choices, blocks, count}
 use Rattle.plan_rule.specs.Plans.{IsPlan, IsFeasible, code_of, total}
 use Rattle.plan_rule.specs.Paths.{key, IsWithin}
-use Rattle.plan_rule.specs.Boxes.{AreLiterals, IsAscending, IsBox, IsLiteral, Holds, exact}
-use Rattle.plan_rule.specs.Bounds.{IsBase, MayTake}
+use Rattle.plan_rule.specs.Boxes.{AreLiterals, IsAscending, IsBox, IsLiteral, Holds, HasExact, exact}
+use Rattle.plan_rule.specs.Bounds.{IsBase, IsLeastOf, MayTake}
 use Rattle.plan_rule.specs.Yards.{choices}
 use Rattle.plan_rule.proofs.BarLaws.{refutes_within, key_above}
 use Rattle.plan_rule.proofs.BehindLaws.{fixes_at}
@@ -50,6 +50,22 @@ pub record AreShut (c : Choices) (bar code lo hi : ℕ) : Type 0 where
 one_ascends : (l : Literal) → IsAscending (l ∷ [])
 one_ascends l i zero x y less e f = absurd (omega arith)
 one_ascends l i (suc j) x y less e f = absurd (none-some y f)
+
+pair_ascends : (code d : ℕ) → IsAscending (pair code d)
+pair_ascends code d i zero x y less e f = absurd (omega arith)
+pair_ascends code d zero (suc zero) x y less e f =
+    let a : 0 ≡ x.block = ap (λ (l : Literal). l.block) (same_Some (exact 0 code) x e) in
+    let b : 1 ≡ y.block = ap (λ (l : Literal). l.block) (same_Some (exact 1 d) y f) in
+    omega arith
+pair_ascends code d (suc i) (suc zero) x y less e f = absurd (omega arith)
+pair_ascends code d i (suc (suc j)) x y less e f = absurd (none-some y f)
+
+-- the code of a block that is exact in a box is the least that the block may take there
+exact_least : (c : Choices) (box : List Literal) (b x : ℕ) → HasExact box b x → x < count c b → IsLeastOf (MayTake c box b) (c.cost b) (Some (c.cost b x))
+exact_least c box b x has l = (
+  (x, (l, λ d other. same_Some x d (sym has ∙ other)), refl),
+  λ y may. subst (λ z. c.cost b x ≤ c.cost b z) (sym (may.1 x has)) (le_refl (c.cost b x)),
+)
 
 module _ (c : Choices) (bar code lo hi : ℕ) (h : AreShut c bar code lo hi) where
   -- the base of both blocks at a code each is what the codes cost

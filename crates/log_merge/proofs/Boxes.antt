@@ -1,5 +1,6 @@
 -- The boxes of a job that is halved, and of its halves.
-use Rattle.std.proofs.Common.{◌≡◌, ◌≢◌, ℕ, zero, suc, ◌+◌, ◌-◌, ◌<◌, ◌≤◌, List, [], ◌∷◌, ◌++◌, length, drop, get_or, Bool, true, false, true≢false, Some, refl, sym, ap, ◌∙◌, subst, inl, inr, arith, append-nil, eq-eqb, ne_eqb}
+use Rattle.std.proofs.Common.{◌≡◌, ◌≢◌, ℕ, zero, suc, ◌+◌, ◌-◌, ◌<◌, ◌≤◌, List, [], ◌∷◌, ◌++◌, length, drop, get_or, Bool, true, false, true≢false, Some, refl, sym, ap, ◌∙◌, subst, inl, inr, arith, append-nil, append_assoc, eq-eqb, ne_eqb}
+use Rattle.std.proofs.Math.Seq.{drop-cons}
 use Rattle.std.specs.Prelude.{if◌then◌else◌, ◌==◌, ◌&&◌, slice_get, nat_lt}
 use Rattle.std.specs.List.{All, Contains, filter}
 use Rattle.std.proofs.lemmas.Bool.{lt-ltb, le-ltb}
@@ -114,6 +115,21 @@ box_push c n side l h le is = record {
 
 abbrev HoldsCode : List ℕ → Literal → Type 0
 HoldsCode p l = (l.lo ≤ code_of p l.block) × (code_of p l.block < l.hi)
+
+front_held : (p : List ℕ) (xs ys : List Literal) → Holds (xs ++ ys) p → Holds xs p
+front_held p [] ys h = All-nil (HoldsCode p)
+front_held p (x ∷ xs) ys h = All-cons (HoldsCode p) x xs (All-head (HoldsCode p) x (xs ++ ys) h) (front_held p xs ys (All-tail (HoldsCode p) x (xs ++ ys) h))
+
+last_held : (p : List ℕ) (xs : List Literal) (l : Literal) → Holds (xs ++ l ∷ []) p → HoldsCode p l
+last_held p [] l h = All-head (HoldsCode p) l [] h
+last_held p (x ∷ xs) l h = last_held p xs l (All-tail (HoldsCode p) x (xs ++ l ∷ []) h)
+
+-- what the box of a part with a range is
+range_is : (c : Choices) (k lo hi : ℕ) (side : List Literal) (none whole : Bool) → none ≡ false
+    → (if whole then side else side ++ literal k lo hi ∷ []) ≡ side ++ (if none then [] else (if whole then [] else literal k lo hi ∷ []))
+range_is c k lo hi side true whole e = absurd (true≢false e)
+range_is c k lo hi side false true e = sym (append-nil side)
+range_is c k lo hi side false false e = refl
 
 module _ (c : Choices) (job : Job) (codes : List ℕ) (lo hi : ℕ) (part : IsRegionPart c job codes lo hi) (exist : length codes < blocks c) (wide : lo + 2 ≤ hi) (within : hi ≤ count c (length codes)) where
   abbrev k : ℕ
@@ -250,6 +266,17 @@ pushed_none n xs l e = sym (ap (λ (b : Bool). xs ++ (if b then [] else l ∷ []
 
 pub pushed_one : (n : ℕ) (xs ys : List Literal) (l : Literal) → n ≢ 1 → ys ≡ xs ++ l ∷ [] → ys ≡ xs ++ (if n == 1 then [] else l ∷ [])
 pushed_one n xs ys l e is = is ∙ sym (ap (λ (b : Bool). xs ++ (if b then [] else l ∷ [])) (ne_eqb n 1 e))
+
+-- the literals of one code more
+pub next_exacts : (c : Choices) (codes : List ℕ) (b code : ℕ) (xs ys all : List Literal) → b < length codes → get_or codes b 0 ≡ code → xs ++ exact_literals c b (drop b codes) ≡ all
+    → ys ≡ xs ++ (if count c b == 1 then [] else exact b code ∷ []) → ys ++ exact_literals c (b + 1) (drop (b + 1) codes) ≡ all
+next_exacts c codes b code xs ys all low at so_far more =
+    let next : suc b ≡ b + 1 = omega arith in
+    let cons : drop b codes ≡ code ∷ drop (suc b) codes = drop-cons codes b 0 low ∙ ap (λ x. x ∷ drop (suc b) codes) at in
+    subst (λ n. ys ++ exact_literals c n (drop n codes) ≡ all) next
+    (ap (λ l. l ++ exact_literals c (suc b) (drop (suc b) codes)) more
+    ∙ append_assoc xs (if count c b == 1 then [] else exact b code ∷ []) (exact_literals c (suc b) (drop (suc b) codes))
+    ∙ ap (λ l. xs ++ exact_literals c b l) (sym cons) ∙ so_far)
 
 pub all_exacts : (c : Choices) (codes : List ℕ) (xs all : List Literal) (b : ℕ) → length codes ≤ b → xs ++ exact_literals c b (drop b codes) ≡ all → xs ≡ all
 all_exacts c codes xs all b far is = sym (append-nil xs) ∙ ap (λ l. xs ++ exact_literals c b l) (sym (drop_all codes b far)) ∙ is

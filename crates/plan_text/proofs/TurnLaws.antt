@@ -39,6 +39,10 @@ row_turn yard b bs n rest line more e =
     let (x, xs, some) = some_piece 10 more in
     rw (parts.split, some) refl
 
+row_missing : (yard : PlainYard) (b : Block) (bs : List Block) (n : ℕ) (rest : List ℕ) → cut 10 rest ≡ None → rows_of yard (b ∷ bs) n (lines rest) ≡ Err (faults.Line n)
+unfolding rows_of
+row_missing yard b bs n rest e = rw (split-whole 10 rest e) refl
+
 module _ (yard : PlainYard) (i : ℕ) (b : Block) (front rest : List ℕ) (all : Result Rows PlanFault) (here : slice_get yard.blocks i ≡ Some b)
     (so_far : with_front front (rows_of yard (drop i yard.blocks) (i + 2) (lines rest)) ≡ all) where
   split : with_front front (rows_of yard (b ∷ drop (i + 1) yard.blocks) (i + 2) (lines rest)) ≡ all

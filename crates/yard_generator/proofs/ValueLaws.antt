@@ -5,8 +5,8 @@ use Rattle.std.specs.Fmt.{decimal}
 use Rattle.std.specs.List.{AllByRecursion}
 use Rattle.std.proofs.lemmas.Bool.{and_from}
 use Rattle.std.proofs.lemmas.Int.{ints}
-use Rattle.toml.specs.Data.{Data, string, integer, array, depth, items_depth, has_valid_dates, items_have_valid_dates}
-use Rattle.toml.specs.Text.{IsValueText, IsItemsText}
+use Rattle.toml.specs.Data.{Data, string, integer, array, Items, no_items, item, depth, items_depth, has_valid_dates, items_have_valid_dates}
+use Rattle.toml.specs.Text.{IsValueText, IsItemsText, breaks_lines}
 use Rattle.toml.specs.View.{items_of}
 use Rattle.yard_generator.proofs.FormLaws.{quoted, further, bracketed, numbers, point, points}
 use Rattle.yard_generator.proofs.QuoteLaws.{IsName, quoted_name}
@@ -25,6 +25,10 @@ written_number n fits = record { text = (refl, search (rules, ints)); depth = om
 
 pub written_name : (name : List ℕ) → IsName name → IsWritten (string name) (quoted name) 0
 written_name name is = record { text = quoted_name name is; depth = omega arith; dates = refl }
+
+no_breaks : (d : Data) (ds : Items) → breaks_lines false (item d ds) ≡ false
+no_breaks d no_items = refl
+no_breaks d (item e ds) = refl
 
 module _ {X : Type 0} (data_of : X → Data) (text : X → List ℕ) (P : X → Type 0) (deep : ℕ) (one : (x : X) → P x
     → IsWritten (data_of x) (text x) deep) where
