@@ -1,18 +1,19 @@
 -- What the steps of a search tell of one another.
-use Rattle.std.proofs.Common.{◌≡◌, ℕ, ◌+◌, ◌^◌, ◌<◌, ◌≤◌, ◌++◌, List, Option, Some, None, Bool, true, refl, sym, subst, inl, inr, arith, length, get_or}
-use Rattle.std.specs.Prelude.{MatchOption, ◌||◌}
+use Rattle.std.proofs.Common.{◌≡◌, ℕ, ◌+◌, ◌^◌, ◌<◌, ◌≤◌, ◌++◌, ◌⊎◌, List, Option, Some, None, Bool, true, false, refl, sym, subst, inl, inr, arith, length, get_or}
+use Rattle.std.specs.Prelude.{MatchOption, ◌||◌, ◌==◌, ◌&&◌, if◌then◌else◌}
 use Rattle.std.specs.List.{All, AllWithin, Contains}
 use Rattle.std.proofs.lemmas.List.Elements.{AllWithin-more, at_read}
+use Rattle.std.proofs.lemmas.Bool.{ne_eqb}
 use Rattle.std.proofs.lemmas.Option.{none-some, same_Some}
 use Rattle.plan_rule.specs.declared.literal.Literal.{Literal}
 use Rattle.plan_rule.specs.declared.job.Job.{Job}
-use Rattle.plan_rule.specs.Choices.{Choices}
+use Rattle.plan_rule.specs.Choices.{Choices, count}
 use Rattle.plan_rule.specs.Boxes.{exact, with_literal}
 use Rattle.branch_kernel.specs.declared.covering.Covered.{Covered}
 use Rattle.branch_kernel.specs.declared.covering.Coverage.{Coverage}
 use Rattle.branch_kernel.specs.declared.covering.Coverage.TheVariants.{Done, Open}
 use Rattle.branch_kernel.specs.States.{State}
-use Rattle.branch_kernel.specs.Boxes.{kept}
+use Rattle.branch_kernel.specs.Boxes.{kept, node_box}
 use Rattle.branch_kernel.specs.Nodes.{IsOpenBox}
 use Rattle.branch_kernel.specs.Growth.{Grows}
 use Rattle.branch_kernel.specs.Shows.{IsHandledBy}
@@ -70,3 +71,14 @@ handled_all c start s tie side needs cites b lo hi n list each all within x low 
 pub listed : (list : List ℕ) (range : Literal) (at code : ℕ) → All (λ code. (range.lo ≤ code) × (code < range.hi)) list → at < length list → code ≡ get_or list at code
     → (range.lo ≤ code) × (code < range.hi)
 listed list range at code inside exists is = subst (λ code. (range.lo ≤ code) × (code < range.hi)) (sym is) (inside at code exists)
+
+-- a range that leaves out a code of its block is a literal of the node's box
+pub cut_box : (c : Choices) (side : List Literal) (l : Literal) → (0 < l.lo) ⊎ (l.hi < count c l.block) → node_box c side l.block l.lo l.hi ≡ with_literal side l
+cut_box c side l (inl low) =
+    subst (λ s. (if s && (l.hi == count c l.block) then side else with_literal side l) ≡ with_literal side l) (sym (ne_eqb l.lo 0 (λ e. omega arith))) refl
+cut_box c side l (inr high) =
+    subst (λ t. (if (l.lo == 0) && t then side else with_literal side l) ≡ with_literal side l) (sym (ne_eqb l.hi (count c l.block) (λ e. omega arith))) (go (l.lo == 0))
+  where
+    go : (s : Bool) → (if s && false then side else with_literal side l) ≡ with_literal side l
+    go true = refl
+    go false = refl

@@ -8,7 +8,7 @@ ghost use Rattle.plan_rule.specs.Yards.{choices};
 use crate::Hints;
 use crate::levels::Level;
 use crate::open::exact_in;
-use branch_kernel::range_on;
+use branch_kernel::{count_of, range_on};
 use code_table::Codes;
 use plan_rule::{Literal, Plan, PlanBox, block_count, total};
 use shape_exact::NoMemory;
@@ -89,6 +89,37 @@ pub(crate) fn slack_of(codes: &Codes, front: &Frontier<'_>, most: u32, block: u8
     most.saturating_sub(others)
 }
 
+/// How many children a block has, and would have, had the job not cut its range: the cut makes a block look small, and a
+/// refutation that hardly needs it would be made again for each of its codes.
+fn uncut_children(
+    codes: &Codes,
+    front: &Frontier<'_>,
+    hints: &Hints,
+    range: Literal,
+    most: u32,
+    enough: u64,
+) -> u64 {
+    let count = children(front, range, most, enough);
+    let Some(cut) = hints.cut() else {
+        return count;
+    };
+    if count == 0 || cut.block != range.block {
+        return count;
+    }
+    let lo = if range.lo == cut.lo { 0 } else { range.lo };
+    let hi = if range.hi == cut.hi {
+        count_of(codes, range.block)
+    } else {
+        range.hi
+    };
+    let whole = Literal {
+        block: range.block,
+        lo,
+        hi,
+    };
+    count.max(children(front, whole, most, enough))
+}
+
 /// How many records a block needs of its own: one for each child, and one for each code that the fit refutes and the base
 /// does not.
 #[tactic(auto, using(plan_rule::proofs::CountLaws::counts))]
@@ -107,7 +138,7 @@ fn score_of(
 {
     let range = range_on(codes, part, block);
     let slack = slack_of(codes, front, most, block);
-    let count = children(front, range, slack, enough);
+    let count = uncut_children(codes, front, hints, range, slack, enough);
     if count == 0 {
         return 0;
     }

@@ -168,7 +168,7 @@ fn divide<B: Bars>(
 
 /// Refutes the box by its bounds, or by its codes of a block. Answers the record whose result contains it.
 #[cycle(refute)]
-fn refute<B: Bars>(
+pub(crate) fn refute<B: Bars>(
     alloc: Global,
     codes: &Codes,
     tables: &YardTables<'_>,

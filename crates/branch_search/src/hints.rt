@@ -35,6 +35,7 @@ pub struct Hints {
     wanted: u32,
     nodes: u64,
     rest: Option<Rest>,
+    cut: Option<Literal>,
 }
 
 impl Hints {
@@ -52,6 +53,7 @@ impl Hints {
             wanted: u32::MAX,
             nodes: 0,
             rest: None,
+            cut: None,
         })
     }
 
@@ -68,6 +70,16 @@ impl Hints {
     /// The fit of a box is asked, in which no greater total is wanted.
     pub(crate) fn note_wanted(&mut self, most: u32) {
         self.wanted = most;
+    }
+
+    /// The range of the job that is searched.
+    pub(crate) fn cut(&self) -> Option<Literal> {
+        self.cut
+    }
+
+    /// A job is searched that has this range.
+    pub(crate) fn note_cut(&mut self, range: Literal) {
+        self.cut = Some(range);
     }
 
     /// A box is entered. That of a code past the slack of its block is not counted: its fit refutes it.
