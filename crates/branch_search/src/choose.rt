@@ -147,19 +147,7 @@ fn score_of(
     count.saturating_add(between(hints.levels(block), slack, top))
 }
 
-/// The block's weight; 0 past the last block.
-fn weight_of(codes: &Codes, block: u8) -> u16 {
-    let blocks = codes.yard().blocks();
-    let at = usize::from(block);
-    if at < blocks.len() {
-        blocks[at].weight
-    } else {
-        0
-    }
-}
-
-/// The block with the fewest records of its own; of several the one with the greatest weight, and then the first. A block
-/// without a child at once. The box leaves `first` open.
+/// The block with the fewest records of its own; of several the first. A block without a child at once. The box leaves `first` open.
 fn fewest(
     codes: &Codes,
     front: &Frontier<'_>,
@@ -177,7 +165,6 @@ fn fewest(
 {
     let mut chosen = first;
     let mut least = u64::MAX;
-    let mut greatest = 0;
     for block in 0..block_count(codes) {
         let None = exact_in(part, block) else {
             continue;
@@ -186,11 +173,9 @@ fn fewest(
         if score == 0 {
             return block;
         }
-        let weight = weight_of(codes, block);
-        if score < least || score == least && weight > greatest {
+        if score < least {
             chosen = block;
             least = score;
-            greatest = weight;
         }
     }
     chosen
