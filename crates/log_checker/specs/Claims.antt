@@ -1,5 +1,5 @@
 -- A plan that is claimed to be the best, or that none is feasible.
-use Rattle.std.specs.Prelude.{◌≡◌, ℕ, List, Option, Some, None}
+use Rattle.std.specs.Prelude.{◌≡◌, ℕ, List, Option, IfSome}
 use Rattle.std.specs.Option.{option_map}
 use Rattle.plan_rule.specs.Choices.{Choices}
 use Rattle.plan_rule.specs.Plans.{IsPlan, total}
@@ -11,5 +11,4 @@ plan_of claim = option_map (λ c. c.plan.now) claim
 
 -- none, or a plan with its total
 abbrev pub IsClaim : Choices → Option Claim → Type 0
-IsClaim c None = Unit {0}
-IsClaim c (Some claim) = IsPlan c claim.plan.now × (claim.total ≡ total c claim.plan.now)
+IsClaim c claim = IfSome claim (λ k. IsPlan c k.plan.now × (k.total ≡ total c k.plan.now))

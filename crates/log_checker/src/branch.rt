@@ -4,18 +4,17 @@ ghost use Rattle.plan_rule.specs.Choices.{blocks};
 ghost use Rattle.plan_rule.specs.Boxes.{IsBox, LeavesFree};
 ghost use Rattle.plan_rule.specs.Yards.{choices};
 ghost use Rattle.refutation_log.specs.Steps.{IsRange};
-ghost use Rattle.log_checker.specs.Claims.{IsClaim, plan_of};
+ghost use Rattle.log_checker.specs.Claims.{plan_of};
 ghost use Rattle.log_checker.specs.Forms.{HasForm};
 ghost use Rattle.log_checker.specs.Masks.{AreTold};
 ghost use Rattle.log_checker.specs.Verdicts.{TellsCovered};
 
 use crate::cited::spans_of;
-use crate::claim::Claim;
 use crate::cut::cut_of;
 use crate::exact::exact_of;
+use crate::judge::Judge;
 use crate::mask::Masks;
 use crate::uncovered::first_uncovered;
-use code_table::Codes;
 use plan_rule::PlanBox;
 use refutation_log::{Cites, Record};
 use shape_exact::NoMemory;
@@ -26,9 +25,8 @@ use std::alloc::Global;
 /// code is covered.
 pub(crate) fn branch_fault(
     alloc: Global,
-    codes: &Codes,
+    judge: &Judge<'_>,
     masks: &mut Masks,
-    claim: Option<Claim<'_>>,
     earlier: &[Record],
     block: u8,
     lo: u32,
@@ -36,23 +34,22 @@ pub(crate) fn branch_fault(
     side: &PlanBox,
     cites: &Cites,
 ) -> Result<Option<u32>, NoMemory>
-    requires told { AreTold codes.now masks.old }
-    requires claim { IsClaim (choices codes.now) claim }
-    requires earlier { All (HasForm (choices codes.now)) earlier.now }
-    requires block { block < blocks (choices codes.now) }
-    requires side { IsBox (choices codes.now) side.now }
+    requires told { AreTold judge.now.codes.now masks.old }
+    requires earlier { All (HasForm (choices judge.now.codes.now)) earlier.now }
+    requires block { block < blocks (choices judge.now.codes.now) }
+    requires side { IsBox (choices judge.now.codes.now) side.now }
     requires free { LeavesFree side.now block }
-    requires range { IsRange (choices codes.now) block lo hi }
+    requires range { IsRange (choices judge.now.codes.now) block lo hi }
     requires cites { All (λ k. k < length earlier.now) cites.now }
     ensures value { IfOk result
-        (TellsCovered (choices codes.now) (plan_of claim.entry) earlier.now block lo hi side.now cites.now) }
-    ensures told { AreTold codes.now masks.new }
+        (TellsCovered (choices judge.now.codes.now) (plan_of judge.now.claim) earlier.now block lo hi side.now cites.now) }
+    ensures told { AreTold judge.now.codes.now masks.new }
 {
-    let cut = cut_of(codes, claim, side, block);
-    let spans = spans_of(alloc, codes, earlier, cites, side, block)?;
-    let exacts = exact_of(codes, side);
+    let cut = cut_of(judge, side, block);
+    let spans = spans_of(alloc, judge.codes, earlier, cites, side, block)?;
+    let exacts = exact_of(judge.codes, side);
     Ok(first_uncovered(
-        codes,
+        judge.codes,
         masks,
         block,
         lo,

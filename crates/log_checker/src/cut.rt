@@ -7,11 +7,11 @@ ghost use Rattle.code_table.specs.Placements.{placements};
 ghost use Rattle.plan_rule.specs.Boxes.{IsBox, LeavesFree};
 ghost use Rattle.plan_rule.specs.Choices.{IsCode, blocks};
 ghost use Rattle.plan_rule.specs.Yards.{choices};
-ghost use Rattle.log_checker.specs.Claims.{IsClaim, plan_of};
+ghost use Rattle.log_checker.specs.Claims.{plan_of};
 ghost use Rattle.log_checker.specs.Cuts.{IsCut, Takes};
 
 use crate::block::block_at;
-use crate::claim::Claim;
+use crate::judge::Judge;
 use crate::rest::rest_of;
 use crate::ties::first_tie;
 use code_table::Codes;
@@ -82,17 +82,16 @@ impl Cut {
 }
 
 /// Which codes of the block the base refutes beside the side, against the claim.
-pub(crate) fn cut_of(codes: &Codes, claim: Option<Claim<'_>>, side: &PlanBox, block: u8) -> Cut
-    requires claim { IsClaim (choices codes.now) claim }
-    requires side { IsBox (choices codes.now) side.now }
-    requires block { block < blocks (choices codes.now) }
+pub(crate) fn cut_of(judge: &Judge<'_>, side: &PlanBox, block: u8) -> Cut
+    requires side { IsBox (choices judge.now.codes.now) side.now }
+    requires block { block < blocks (choices judge.now.codes.now) }
     requires free { LeavesFree side.now block }
-    ensures { IsCut (choices codes.now) (plan_of claim.entry) side.now block result }
+    ensures { IsCut (choices judge.now.codes.now) (plan_of judge.now.claim) side.now block result }
 {
-    let Some(rest) = rest_of(codes, side, block) else {
+    let Some(rest) = rest_of(judge.codes, side, block) else {
         return Cut::Every;
     };
-    let Some(claim) = claim else {
+    let Some(claim) = judge.claim else {
         return Cut::Nothing;
     };
     if claim.total < rest {
@@ -100,6 +99,6 @@ pub(crate) fn cut_of(codes: &Codes, claim: Option<Claim<'_>>, side: &PlanBox, bl
     }
     Cut::Above(
         claim.total - rest,
-        first_tie(codes, claim.plan, side, block),
+        first_tie(judge.codes, claim.plan, side, block),
     )
 }

@@ -6,13 +6,13 @@ ghost use Rattle.plan_rule.specs.Boxes.{IsBox};
 ghost use Rattle.plan_rule.specs.Bounds.{IsEnergy};
 ghost use Rattle.plan_rule.specs.Yards.{choices};
 ghost use Rattle.code_table.specs.Costs.{lesser};
-ghost use Rattle.log_checker.specs.Claims.{IsClaim, plan_of};
+ghost use Rattle.log_checker.specs.Claims.{plan_of};
 ghost use Rattle.log_checker.specs.Verdicts.{TellsBound};
 ghost use Rattle.log_checker.specs.Windows.{IsLeastRaiseOf, IsRaiseIn};
 
 use crate::base::base;
 use crate::block::block_at;
-use crate::claim::Claim;
+use crate::judge::Judge;
 use crate::refute::fault;
 use crate::window::{Window, has_room, presses};
 use code_table::Codes;
@@ -80,18 +80,11 @@ fn energy(codes: &Codes, side: &PlanBox, window: Window) -> Option<u32>
 }
 
 /// The energy of the side in the window of these days, where it does not refute the side; None where it does.
-pub(crate) fn energy_fault(
-    codes: &Codes,
-    claim: Option<Claim<'_>>,
-    from: u16,
-    to: u16,
-    side: &PlanBox,
-) -> Option<u32>
-    requires claim { IsClaim (choices codes.now) claim }
-    requires side { IsBox (choices codes.now) side.now }
+pub(crate) fn energy_fault(judge: &Judge<'_>, from: u16, to: u16, side: &PlanBox) -> Option<u32>
+    requires side { IsBox (choices judge.now.codes.now) side.now }
     requires window { from ≤ to }
-    requires days { to < (choices codes.now).days }
-    ensures { TellsBound (IsEnergy (choices codes.now) from to side.now) (choices codes.now) (plan_of claim.entry) side.now result }
+    requires days { to < (choices judge.now.codes.now).days }
+    ensures { TellsBound (IsEnergy (choices judge.now.codes.now) from to side.now) (choices judge.now.codes.now) (plan_of judge.now.claim) side.now result }
 {
-    fault(codes, claim, side, energy(codes, side, Window { from, to }))
+    fault(judge, side, energy(judge.codes, side, Window { from, to }))
 }

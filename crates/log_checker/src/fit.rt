@@ -4,7 +4,7 @@ ghost use Rattle.plan_rule.specs.Choices.{blocks};
 ghost use Rattle.plan_rule.specs.Boxes.{IsBox};
 ghost use Rattle.plan_rule.specs.Bounds.{IsFit};
 ghost use Rattle.plan_rule.specs.Yards.{choices};
-ghost use Rattle.log_checker.specs.Claims.{IsClaim, plan_of};
+ghost use Rattle.log_checker.specs.Claims.{plan_of};
 ghost use Rattle.log_checker.specs.ExactBlocks.{AreExact, IsStanding};
 ghost use Rattle.log_checker.specs.Leasts.{IsFitUpTo, IsLeastFit};
 ghost use Rattle.log_checker.specs.Masks.{AreTold};
@@ -15,6 +15,7 @@ use crate::base::base;
 use crate::claim::Claim;
 use crate::exact::{Exact, exact_of};
 use crate::free::least_free;
+use crate::judge::Judge;
 use crate::mask::Masks;
 use crate::passed::Passed;
 use crate::refute::fault;
@@ -99,23 +100,21 @@ fn greatest(claim: Option<Claim<'_>>) -> u32
 
 /// The fit of the side, where it does not refute the side; None where it does.
 pub(crate) fn fit_fault(
-    codes: &Codes,
+    judge: &Judge<'_>,
     masks: &mut Masks,
     passed: &mut Passed,
-    claim: Option<Claim<'_>>,
     side: &PlanBox,
 ) -> Option<u32>
-    requires told { AreTold codes.now masks.old }
-    requires kept { ArePassed codes.now passed.old }
-    requires claim { IsClaim (choices codes.now) claim }
-    requires side { IsBox (choices codes.now) side.now }
-    ensures value { TellsBound (IsFit (choices codes.now) side.now) (choices codes.now) (plan_of claim.entry) side.now result }
-    ensures told { AreTold codes.now masks.new }
-    ensures kept { ArePassed codes.now passed.new }
+    requires told { AreTold judge.now.codes.now masks.old }
+    requires kept { ArePassed judge.now.codes.now passed.old }
+    requires side { IsBox (choices judge.now.codes.now) side.now }
+    ensures value { TellsBound (IsFit (choices judge.now.codes.now) side.now) (choices judge.now.codes.now) (plan_of judge.now.claim) side.now result }
+    ensures told { AreTold judge.now.codes.now masks.new }
+    ensures kept { ArePassed judge.now.codes.now passed.new }
 {
-    codes.limits();
-    let Some(fit) = fit(codes, masks, passed, side, greatest(claim)) else {
+    let _yard = judge.codes.yard();
+    let Some(fit) = fit(judge.codes, masks, passed, side, greatest(judge.claim)) else {
         return None;
     };
-    fault(codes, claim, side, Some(fit))
+    fault(judge, side, Some(fit))
 }

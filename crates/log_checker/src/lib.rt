@@ -2,10 +2,11 @@
 //!
 //! It shares no code with a search. It walks the codes of each record and computes every bound for itself.
 //!
-//! `judge` gives the verdict (`verdict`), `steps` the first record that is no step, by its form (`form`), its citations and
-//! what it should show. A branch is asked code by code (`branch`, `uncovered`): the spans of codes that citations, the base
-//! and ties cover (`cited`, `cut`, `ties`, `span`), and walks over the others (`walk`) beside what stands near (`exact`,
-//! `near`). The bounds are `base`, `rest`, `fit` with `free`, and `energy` with `window`; `refute` says when one refutes.
+//! `checking` gives the verdict (`verdict`) and makes the `judge` that every record is asked with, `steps` the first
+//! record that is no step, by its form (`form`), its citations and what it should show. A branch is asked code by code
+//! (`branch`, `uncovered`): the spans of codes that citations, the base and ties cover (`cited`, `cut`, `ties`, `span`),
+//! and walks over the others (`walk`) beside what stands near (`exact`, `near`). The bounds are `base`, `rest`, `fit`
+//! with `free`, and `energy` with `window`; `refute` says when one refutes.
 //!
 //! From record to record two things are kept: which codes of a stretch clash with an exact block, whatever their days (`mask`,
 //! of which a walk is given a `part`; whether turned footprints are apart says `offset`), and of each block how many of its
@@ -15,6 +16,7 @@
 mod base;
 mod block;
 mod branch;
+mod checking;
 mod cited;
 mod claim;
 mod cut;
@@ -41,5 +43,5 @@ mod verdict;
 mod walk;
 mod window;
 
-pub use judge::check;
+pub use checking::check;
 pub use verdict::{Refused, Verdict};

@@ -3,28 +3,21 @@ ghost use Rattle.std.specs.Prelude.{◌≡◌, ◌↔◌, IsTrue, MatchOption, S
 ghost use Rattle.plan_rule.specs.Boxes.{IsBox};
 ghost use Rattle.plan_rule.specs.Bounds.{Refutes};
 ghost use Rattle.plan_rule.specs.Yards.{choices};
-ghost use Rattle.log_checker.specs.Claims.{IsClaim, plan_of};
+ghost use Rattle.log_checker.specs.Claims.{plan_of};
 
-use crate::claim::Claim;
-use code_table::Codes;
+use crate::judge::Judge;
 use plan_rule::PlanBox;
 
 /// Whether a bound of the side, None for Never, shows that no feasible plan in it is before the claimed plan; or, where
 /// none is claimed, that no plan in it is feasible.
-pub(crate) fn refutes(
-    codes: &Codes,
-    claim: Option<Claim<'_>>,
-    side: &PlanBox,
-    bound: Option<u32>,
-) -> bool
-    requires claim { IsClaim (choices codes.now) claim }
-    requires side { IsBox (choices codes.now) side.now }
-    ensures { IsTrue result ↔ Refutes (choices codes.now) (plan_of claim.entry) side.now bound }
+pub(crate) fn refutes(judge: &Judge<'_>, side: &PlanBox, bound: Option<u32>) -> bool
+    requires side { IsBox (choices judge.now.codes.now) side.now }
+    ensures { IsTrue result ↔ Refutes (choices judge.now.codes.now) (plan_of judge.now.claim) side.now bound }
 {
     let Some(bound) = bound else {
         return true;
     };
-    let Some(claim) = claim else {
+    let Some(claim) = judge.claim else {
         return false;
     };
     if claim.total < bound {
@@ -34,18 +27,12 @@ pub(crate) fn refutes(
 }
 
 /// None where the bound refutes the side, and else the bound.
-pub(crate) fn fault(
-    codes: &Codes,
-    claim: Option<Claim<'_>>,
-    side: &PlanBox,
-    bound: Option<u32>,
-) -> Option<u32>
-    requires claim { IsClaim (choices codes.now) claim }
-    requires side { IsBox (choices codes.now) side.now }
-    ensures { MatchOption result (Refutes (choices codes.now) (plan_of claim.entry) side.now bound)
-        (λ n. (bound ≡ Some n) × (Refutes (choices codes.now) (plan_of claim.entry) side.now (Some n) → ⊥)) }
+pub(crate) fn fault(judge: &Judge<'_>, side: &PlanBox, bound: Option<u32>) -> Option<u32>
+    requires side { IsBox (choices judge.now.codes.now) side.now }
+    ensures { MatchOption result (Refutes (choices judge.now.codes.now) (plan_of judge.now.claim) side.now bound)
+        (λ n. (bound ≡ Some n) × (Refutes (choices judge.now.codes.now) (plan_of judge.now.claim) side.now (Some n) → ⊥)) }
 {
-    if refutes(codes, claim, side, bound) {
+    if refutes(judge, side, bound) {
         return None;
     }
     bound

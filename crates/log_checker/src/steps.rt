@@ -2,7 +2,7 @@
 ghost use Rattle.std.specs.Prelude.{◌<◌, ◌≤◌, ◌^◌, All, IfOk, MatchOption, length};
 ghost use Rattle.plan_rule.specs.Yards.{choices};
 ghost use Rattle.refutation_log.specs.Steps.{IsStep};
-ghost use Rattle.log_checker.specs.Claims.{IsClaim, plan_of};
+ghost use Rattle.log_checker.specs.Claims.{plan_of};
 ghost use Rattle.log_checker.specs.Forms.{HasForm};
 ghost use Rattle.log_checker.specs.Masks.{AreTold};
 ghost use Rattle.log_checker.specs.PassedCodes.{ArePassed};
@@ -10,13 +10,12 @@ ghost use Rattle.log_checker.specs.Verdicts.{AreStepsBefore, IsFault, IsFirst, I
 
 use crate::Refused;
 use crate::branch::branch_fault;
-use crate::claim::Claim;
 use crate::energy::energy_fault;
 use crate::fit::fit_fault;
 use crate::form::has_form;
+use crate::judge::Judge;
 use crate::mask::Masks;
 use crate::passed::Passed;
-use code_table::Codes;
 use refutation_log::{Cites, Record};
 use shape_exact::NoMemory;
 use std::alloc::Global;
@@ -36,26 +35,24 @@ fn first_late(cites: &Cites, step: u64) -> Option<u64>
 /// Why the record is no step after the earlier ones; None where it is one.
 fn fault_of(
     alloc: Global,
-    codes: &Codes,
+    judge: &Judge<'_>,
     masks: &mut Masks,
     passed: &mut Passed,
-    claim: Option<Claim<'_>>,
     earlier: &[Record],
     entry: &Record,
 ) -> Result<Option<Refused>, NoMemory>
-    requires told { AreTold codes.now masks.old }
-    requires kept { ArePassed codes.now passed.old }
-    requires claim { IsClaim (choices codes.now) claim }
-    requires earlier { All (HasForm (choices codes.now)) earlier.now }
+    requires told { AreTold judge.now.codes.now masks.old }
+    requires kept { ArePassed judge.now.codes.now passed.old }
+    requires earlier { All (HasForm (choices judge.now.codes.now)) earlier.now }
     requires few { length earlier.now < 10 ^ 18 }
     ensures value { IfOk result (λ found. MatchOption found
-        (IsStep (choices codes.now) (plan_of claim.entry) earlier.now entry.now)
-        (IsFault (choices codes.now) (plan_of claim.entry) earlier.now entry.now)) }
-    ensures told { AreTold codes.now masks.new }
-    ensures kept { ArePassed codes.now passed.new }
+        (IsStep (choices judge.now.codes.now) (plan_of judge.now.claim) earlier.now entry.now)
+        (IsFault (choices judge.now.codes.now) (plan_of judge.now.claim) earlier.now entry.now)) }
+    ensures told { AreTold judge.now.codes.now masks.new }
+    ensures kept { ArePassed judge.now.codes.now passed.new }
 {
     let step = earlier.len() as u64;
-    if !has_form(codes, entry) {
+    if !has_form(judge.codes, entry) {
         return Ok(Some(Refused::BadForm(step)));
     }
     match entry {
@@ -69,19 +66,17 @@ fn fault_of(
             if let Some(cite) = first_late(cites, step) {
                 return Ok(Some(Refused::BadCite(step, cite)));
             }
-            match branch_fault(
-                alloc, codes, masks, claim, earlier, *block, *lo, *hi, side, cites,
-            )? {
+            match branch_fault(alloc, judge, masks, earlier, *block, *lo, *hi, side, cites)? {
                 Some(code) => Ok(Some(Refused::Uncovered(step, code))),
                 None => Ok(None),
             }
         }
-        Record::Fit { side } => match fit_fault(codes, masks, passed, claim, side) {
+        Record::Fit { side } => match fit_fault(judge, masks, passed, side) {
             Some(bound) => Ok(Some(Refused::BoundLow(step, bound))),
             None => Ok(None),
         },
         Record::Energy { from, to, side } => {
-            match energy_fault(codes, claim, *from, *to, side) {
+            match energy_fault(judge, *from, *to, side) {
                 Some(bound) => Ok(Some(Refused::BoundLow(step, bound))),
                 None => Ok(None),
             }
@@ -92,25 +87,22 @@ fn fault_of(
 /// Why the first record that is no step is not one; None where each record is a step.
 pub(crate) fn first_fault(
     alloc: Global,
-    codes: &Codes,
-    claim: Option<Claim<'_>>,
+    judge: &Judge<'_>,
     records: &[Record],
 ) -> Result<Option<Refused>, NoMemory>
-    requires claim { IsClaim (choices codes.now) claim }
     requires few { length records.now < 10 ^ 18 }
     ensures { IfOk result (λ found. MatchOption found
-        (AreStepsBefore (choices codes.now) (plan_of claim.entry) records.now (length records.now))
-        (IsFirstFault (choices codes.now) (plan_of claim.entry) records.now)) }
+        (AreStepsBefore (choices judge.now.codes.now) (plan_of judge.now.claim) records.now (length records.now))
+        (IsFirstFault (choices judge.now.codes.now) (plan_of judge.now.claim) records.now)) }
 {
     let mut masks = Masks::new(alloc)?;
     let mut passed = Passed::new();
     for i in 0..records.len() {
         if let Some(refused) = fault_of(
             alloc,
-            codes,
+            judge,
             &mut masks,
             &mut passed,
-            claim,
             &records[..i],
             &records[i],
         )? {

@@ -6,6 +6,7 @@ ghost use Rattle.log_checker.specs.Forms.{HasForm};
 
 use super::branch_fault;
 use crate::form::has_form;
+use crate::judge::Judge;
 use crate::mask::Masks;
 use crate::tests::yards::has_block;
 use code_table::{Codes, can_be_planned};
@@ -109,8 +110,9 @@ fn left(
         } => {
             assert!(rt; are_below(cites.list(), earlier.len()));
             let mut masks = Masks::new(alloc)?;
+            let judge = Judge { codes, claim: None };
             branch_fault(
-                alloc, codes, &mut masks, None, earlier, *block, *lo, *hi, side, cites,
+                alloc, &judge, &mut masks, earlier, *block, *lo, *hi, side, cites,
             )
         }
         Record::Fit { .. } => Ok(None),

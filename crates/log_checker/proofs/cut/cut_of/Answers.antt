@@ -8,33 +8,33 @@ use Rattle.log_checker.proofs.cut.cut_of.Goals as goal
 
 pub returns-in_default : goal.returns-in_default
 returns-in_default c =
-    every_never (choices c.args.codes.now) (plan_of c.args.claim) c.args.side.now c.args.block c.in_default.ensures
+    every_never (choices c.args.judge.now.codes.now) (plan_of c.args.judge.now.claim) c.args.side.now c.args.block c.in_default.ensures
 
 pub returns-in_default-claim : goal.returns-in_default-claim
 returns-in_default-claim c =
-    subst (λ t. IsCut (choices c.args.codes.now) t c.args.side.now c.args.block Nothing) (sym (ap plan_of c.in_default-claim.is))
-    (nothing_cut (choices c.args.codes.now) c.args.side.now c.args.block c.in-Some.rest c.in-Some.ensures)
+    subst (λ t. IsCut (choices c.args.judge.now.codes.now) t c.args.side.now c.args.block Nothing) (sym (ap plan_of c.in_default-claim.is))
+    (nothing_cut (choices c.args.judge.now.codes.now) c.args.side.now c.args.block c.in-Some.rest c.in-Some.ensures)
 
 pub first_tie-requires-clause-plan : goal.first_tie-requires-clause-plan
 first_tie-requires-clause-plan c =
-    let claimed : IsClaim (choices c.args.codes.now) (Some c.in-Some-claim.claim) =
-    subst (IsClaim (choices c.args.codes.now)) c.in-Some-claim.is c.requires.claim in
+    let claimed : IsClaim (choices c.args.judge.now.codes.now) (Some c.in-Some-claim.claim) =
+    subst (IsClaim (choices c.args.judge.now.codes.now)) c.in-Some-claim.is c.args.judge.now.claimed in
     claimed.0
 
 pub returns-then-claim-rest : goal.returns-then-claim-rest
 returns-then-claim-rest c =
-    let claimed : IsClaim (choices c.args.codes.now) (Some c.in-Some-claim.claim) =
-    subst (IsClaim (choices c.args.codes.now)) c.in-Some-claim.is c.requires.claim in
+    let claimed : IsClaim (choices c.args.judge.now.codes.now) (Some c.in-Some-claim.claim) =
+    subst (IsClaim (choices c.args.judge.now.codes.now)) c.in-Some-claim.is c.args.judge.now.claimed in
     let same = claimed.1 in
-    subst (λ t. IsCut (choices c.args.codes.now) t c.args.side.now c.args.block Every) (sym (ap plan_of c.in-Some-claim.is))
-    (every_above (choices c.args.codes.now) c.in-Some-claim.claim.plan.now c.args.side.now c.args.block c.in-Some.rest c.in-Some.ensures (omega arith))
+    subst (λ t. IsCut (choices c.args.judge.now.codes.now) t c.args.side.now c.args.block Every) (sym (ap plan_of c.in-Some-claim.is))
+    (every_above (choices c.args.judge.now.codes.now) c.in-Some-claim.claim.plan.now c.args.side.now c.args.block c.in-Some.rest c.in-Some.ensures (omega arith))
 
 pub returns : goal.returns
 returns c =
-    let claimed : IsClaim (choices c.args.codes.now) (Some c.in-Some-claim.claim) =
-    subst (IsClaim (choices c.args.codes.now)) c.in-Some-claim.is c.requires.claim in
+    let claimed : IsClaim (choices c.args.judge.now.codes.now) (Some c.in-Some-claim.claim) =
+    subst (IsClaim (choices c.args.judge.now.codes.now)) c.in-Some-claim.is c.args.judge.now.claimed in
     let same = claimed.1 in
-    subst (λ t. IsCut (choices c.args.codes.now) t c.args.side.now c.args.block (Above (c.in-Some-claim.claim.total - c.in-Some.rest) c.first_tie.result))
+    subst (λ t. IsCut (choices c.args.judge.now.codes.now) t c.args.side.now c.args.block (Above (c.in-Some-claim.claim.total - c.in-Some.rest) c.first_tie.result))
     (sym (ap plan_of c.in-Some-claim.is))
-    (above_cut (choices c.args.codes.now) c.in-Some-claim.claim.plan.now c.args.side.now c.args.block c.in-Some.rest
+    (above_cut (choices c.args.judge.now.codes.now) c.in-Some-claim.claim.plan.now c.args.side.now c.args.block c.in-Some.rest
     (c.in-Some-claim.claim.total - c.in-Some.rest) c.first_tie.result c.in-Some.ensures (omega arith) c.first_tie.ensures)

@@ -9,16 +9,16 @@ use Rattle.log_checker.proofs.StepLaws.{forms_taken, none_of, steps_more}
 use Rattle.log_checker.proofs.steps.first_fault.Goals as goal
 
 pub fault_of-requires-clause-earlier : goal.fault_of-requires-clause-earlier
-fault_of-requires-clause-earlier c = forms_taken (choices c.args.codes.now) (plan_of c.args.claim) c.args.records.now c.loop-i.i (omega arith) c.loop-i.invariant.steps
+fault_of-requires-clause-earlier c = forms_taken (choices c.args.judge.now.codes.now) (plan_of c.args.judge.now.claim) c.args.records.now c.loop-i.i (omega arith) c.loop-i.invariant.steps
 
 pub returns-in-Some : goal.returns-in-Some
 returns-in-Some c =
     let at : slice_get c.args.records.now c.loop-i.i ≡ Some c.index-records-i.result =
     slice_get_read c.args.records.now (length c.args.records.now) c.loop-i.i c.index-records-i.result refl (omega arith) c.index-records-i.is in
-    let here : MatchOption (Some c.in-Some.refused) (IsStep (choices c.args.codes.now) (plan_of c.args.claim) (take c.loop-i.i c.args.records.now) c.index-records-i.result)
-    (IsFault (choices c.args.codes.now) (plan_of c.args.claim) (take c.loop-i.i c.args.records.now) c.index-records-i.result) =
-    subst (λ o. MatchOption o (IsStep (choices c.args.codes.now) (plan_of c.args.claim) (take c.loop-i.i c.args.records.now) c.index-records-i.result)
-    (IsFault (choices c.args.codes.now) (plan_of c.args.claim) (take c.loop-i.i c.args.records.now) c.index-records-i.result)) c.in-Some.is c.in_ok-refused.ensures.value in
+    let here : MatchOption (Some c.in-Some.refused) (IsStep (choices c.args.judge.now.codes.now) (plan_of c.args.judge.now.claim) (take c.loop-i.i c.args.records.now) c.index-records-i.result)
+    (IsFault (choices c.args.judge.now.codes.now) (plan_of c.args.judge.now.claim) (take c.loop-i.i c.args.records.now) c.index-records-i.result) =
+    subst (λ o. MatchOption o (IsStep (choices c.args.judge.now.codes.now) (plan_of c.args.judge.now.claim) (take c.loop-i.i c.args.records.now) c.index-records-i.result)
+    (IsFault (choices c.args.judge.now.codes.now) (plan_of c.args.judge.now.claim) (take c.loop-i.i c.args.records.now) c.index-records-i.result)) c.in-Some.is c.in_ok-refused.ensures.value in
     record { number = c.loop-i.i; entry = c.index-records-i.result; at = at; before = c.loop-i.invariant.steps; here = here }
 
 pub loop-i-preserved : goal.loop-i-preserved
@@ -34,6 +34,6 @@ loop-i-preserved c =
 pub loop-i-init : goal.loop-i-init
 loop-i-init c = record {
   steps = λ i below. absurd (omega arith);
-  told = c.in_ok-masks.ensures c.args.codes.now;
-  kept = c.new-passed.ensures c.args.codes.now;
+  told = c.in_ok-masks.ensures c.args.judge.now.codes.now;
+  kept = c.new-passed.ensures c.args.judge.now.codes.now;
 }

@@ -2,7 +2,7 @@ use Rattle.std.proofs.Common.{rules}
 use Rattle.plan_rule.specs.Yards.{choices}
 use Rattle.log_checker.specs.declared.verdict.Verdict.TheVariants as verdict
 use Rattle.log_checker.proofs.VerdictLaws.{answer_best, answer_decides, verdict_decides}
-use Rattle.log_checker.proofs.judge.check.Goals as goal
+use Rattle.log_checker.proofs.checking.check.Goals as goal
 
 pub returns-clause-verdict : goal.returns-clause-verdict
 returns-clause-verdict c = search rules
