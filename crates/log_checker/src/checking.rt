@@ -109,7 +109,7 @@ pub fn check(
     ensures best { IfOk result
         (λ v. v ≡ Accepted → IsBest (choices codes.now) (option_map (λ p. p.now) plan.entry)) }
 {
-    let _yard = codes.yard();
+    codes.limits();
     if let Some(refused) = plan_fault(codes, plan) {
         return Ok(Verdict::Refused(refused));
     }

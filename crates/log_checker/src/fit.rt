@@ -112,7 +112,7 @@ pub(crate) fn fit_fault(
     ensures told { AreTold judge.now.codes.now masks.new }
     ensures kept { ArePassed judge.now.codes.now passed.new }
 {
-    let _yard = judge.codes.yard();
+    judge.codes.limits();
     let Some(fit) = fit(judge.codes, masks, passed, side, greatest(judge.claim)) else {
         return None;
     };

@@ -6,5 +6,5 @@ returns-in_default-clause-value c =
     let (k, is, above) = c.in_default.ensures.value in (
       k,
       is,
-      refutes_above c.args.judge.now.codes.now c.args.judge.now.claim c.args.side.now c.greatest.result k c.yard-yard.ensures.limits c.args.judge.now.claimed c.greatest.ensures is above,
+      refutes_above c.args.judge.now.codes.now c.args.judge.now.claim c.args.side.now c.greatest.result k c.limits.ensures.limits c.args.judge.now.claimed c.greatest.ensures is above,
     )
