@@ -1,8 +1,8 @@
 //! Two callers, as docs/CALLING.md shows them: from a file to the codes of its yard, and from a log to what it shows.
-ghost use Rattle.std.specs.Prelude.{◌≡◌, Ok, Some, true, IfOk};
+ghost use Rattle.std.specs.Prelude.{◌≡◌, Some, true, IfOk};
 ghost use Rattle.plan_rule.specs.Plans.{IsBest, IsPlan};
 ghost use Rattle.plan_rule.specs.Yards.{choices};
-ghost use Rattle.yard_file.specs.Reads.{yard_of};
+ghost use Rattle.yard_file.specs.Reads.{yard_of, Gives};
 
 use code_table::Codes;
 use log_checker::{Verdict, check};
@@ -14,7 +14,7 @@ use yard_file::{YardFault, read_yard};
 
 /// The codes of the yard that a file's bytes spell, or why the file is refused.
 pub fn codes_of_file(alloc: Global, bytes: &[u8]) -> Result<Codes, YardFault>
-    ensures { IfOk result (λ codes. yard_of bytes.now ≡ Ok codes) }
+    ensures { Gives result (yard_of bytes.now) }
 {
     let yard = read_yard(alloc, bytes)?;
     match Codes::new(alloc, &yard) {
