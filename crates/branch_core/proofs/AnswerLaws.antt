@@ -1,8 +1,8 @@
 -- The best of the reports is an answer of each search, and the log of the whole yard ends with the empty box.
-use Rattle.std.proofs.Common.{◌≡◌, ◌≢◌, ℕ, zero, suc, ◌+◌, ◌-◌, ◌^◌, ◌<◌, ◌≤◌, List, [], ◌∷◌, ◌++◌, length, get_or, set, Bool, true, false, Option, Some, None, ◌⊎◌, refl, sym, ap, ◌∙◌, subst, inl, inr, arith, length-append}
+use Rattle.std.proofs.Common.{◌≡◌, ◌≢◌, ℕ, zero, suc, ◌+◌, ◌-◌, ◌^◌, ◌<◌, ◌≤◌, List, [], ◌∷◌, ◌++◌, length, get_or, set, true, Option, Some, None, ◌⊎◌, refl, sym, ap, ◌∙◌, subst, inl, inr, arith, length-append}
 use Rattle.std.specs.Prelude.{slice_get, slice_index, ◌↔◌, ◌==◌, ◌&&◌, Ok}
 use Rattle.std.specs.List.{All, Contains}
-use Rattle.std.proofs.lemmas.Bool.{cases_order, eq-eqb, eqb-true}
+use Rattle.std.proofs.lemmas.Bool.{cases_order}
 use Rattle.std.proofs.lemmas.List.{length-set, get_or-set_same, get_or-set_other}
 use Rattle.std.proofs.lemmas.List.Elements.{All-contains, All-cons, All-nil, All-contains_itself, recursion_from_All}
 use Rattle.std.proofs.lemmas.List.Sorted.{IsPermutation-refl}
@@ -36,7 +36,7 @@ use Rattle.branch_kernel.specs.States.{State}
 use Rattle.branch_kernel.specs.Written.{IsBranchWritten}
 use Rattle.branch_kernel.proofs.CoverLaws.{exist-box}
 use Rattle.branch_kernel.proofs.GrowthLaws.{slice_get-last}
-use Rattle.branch_kernel.proofs.WithLaws.{if_true, if_false, with_self}
+use Rattle.branch_kernel.proofs.WithLaws.{if_true}
 use Rattle.branch_core.specs.declared.report.Report.{Report}
 use Rattle.branch_core.specs.Answers.{RecordsAreSteps}
 use Rattle.branch_core.specs.Closed.{IsClosedOff}
@@ -251,30 +251,6 @@ accepted_of c t log new best steps closed = record { answer = best_answers c t b
 -- proper records have a text
 pub proper_text : (c : Choices) (log : List Record) → AreProper c 0 log → HaveText log
 proper_text c log proper = recursion_from_All HasText log (λ k d l. (proper k (get_or log k d) (omega arith) (slice_get-get_or log k d l)).text)
-
--- a range is not whole where it is not from 0 to the count
-not_both : (lo hi n : ℕ) → (lo ≡ 0 → hi ≡ n → ⊥) → ((lo == 0) && (hi == n)) ≡ false
-not_both lo hi n other = go (lo == 0) (hi == n) refl refl
-  where
-    go : (a b : Bool) → (lo == 0) ≡ a → (hi == n) ≡ b → (a && b) ≡ false
-    go true true e f = absurd (other (eqb-true lo 0 e) (eqb-true hi n f))
-    go true false e f = refl
-    go false b e f = refl
-
--- the result of a branch over a part of a block's codes has a literal
-pub part_result : (c : Choices) (e : Record) (b lo hi : ℕ) (side : List Literal) (cites : List ℕ) → e ≡ Branch b lo hi side cites → (lo ≡ 0 → hi ≡ count c b → ⊥) → result_of c e ≡ [] → ⊥
-part_result c e b lo hi side cites same other none =
-    let l : Literal = record { block = b; lo = lo; hi = hi } in
-    let long : result_of c (Branch b lo hi side cites) ≡ with_literal side l = if_false ((lo == 0) && (hi == count c b)) side (with_literal side l) (not_both lo hi (count c b) other) in
-    let (k, less, f) = with_self side l in
-    let n : length (with_literal side l) ≡ 0 = ap length (sym long ∙ ap (result_of c) (sym same) ∙ none) in
-    absurd (omega arith)
-
--- the result of a branch over all of them is its side
-pub whole_result : (c : Choices) (e : Record) (b lo hi : ℕ) (side : List Literal) (cites : List ℕ) → e ≡ Branch b lo hi side cites → (lo ≡ 0) × (hi ≡ count c b) → result_of c e ≡ side
-whole_result c e b lo hi side cites same (f, g) =
-    ap (result_of c) same ∙ if_true ((lo == 0) && (hi == count c b)) side (with_literal side (record { block = b; lo = lo; hi = hi }))
-    (subst (λ lo. ((lo == 0) && (hi == count c b)) ≡ true) (sym f) (eq-eqb hi (count c b) g))
 
 -- where the last record of that job's search refutes another box than the empty one, its box has literals on blocks with one code alone
 pub close_facts : (c : Choices) (log items : List Record) (last : ℕ) (e entry d : Record) (job : Job) (region : Region) → items ≡ log → entry ≡ get_or items last d

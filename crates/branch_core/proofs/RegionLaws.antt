@@ -171,10 +171,6 @@ front_shown c job codes lo hi side start s tie number part front last shown = re
 pub ended_from : (c : Choices) (job : Job) (s s' : State) → Runs c job s s' → IsEnded c job s s'
 ended_from c job s s' runs = record { ends = ends_from c s s' runs.grows; held = runs.held; inside = runs.inside }
 
--- a search that made no record
-pub single_none : (c : Choices) (job : Job) (codes : List ℕ) (lo hi : ℕ) (s s' : State) (e : NoMemory) → Runs c job s s' → IsSingle c job codes lo hi s s' (Err e)
-single_none c job codes lo hi s s' e runs = (ended_from c job s s' runs, tt)
-
 -- the search of a region whose prefix meets a stored box
 pub hit_single : (c : Choices) (job : Job) (codes : List ℕ) (lo hi place tag : ℕ) (side : List Literal) (l : Literal) (bar : ℕ) (best : Option (List ℕ)) (log new : List Record) (store store' : PlainStore)
     (needs : ℕ → Bool) (none items : List ℕ) (result : Result Shown NoMemory)

@@ -4,7 +4,7 @@ use Rattle.std.specs.Prelude.{◌&&◌, ◌==◌, if◌then◌else◌}
 use Rattle.std.specs.List.{Contains}
 use Rattle.std.proofs.lemmas.Bool.{cases_lt, eqb-true, eq-eqb, ne_eqb, true≢false}
 use Rattle.std.proofs.lemmas.List.{get_or-take}
-use Rattle.std.proofs.lemmas.List.Elements.{All-contains, All-weaker, All-nil, Contains-append_left, Contains-append_right}
+use Rattle.std.proofs.lemmas.List.Elements.{All-contains, All-weaker, Contains-append_left, Contains-append_right}
 use Rattle.std.proofs.lemmas.Option.{none-some, same_Some}
 use Rattle.plan_rule.specs.declared.literal.Literal.{Literal}
 use Rattle.plan_rule.specs.declared.job.Job.{Job}
@@ -42,16 +42,6 @@ pub part_same : (c : Choices) (job : Job) (P : List ℕ → ℕ → ℕ → Type
 part_same c job P codes other lo hi low high part holds also =
     let (e, f, g) = one_part c job codes other lo hi low high part also in
     subst (P other low) g (subst (λ lo. P other lo hi) f (subst (λ codes. P codes lo hi) e holds))
-
--- no codes fix nothing
-pub front_none : (c : Choices) (codes : List ℕ) (box : List Literal) → box ≡ [] → IsFront c codes 0 box
-front_none c codes box e = subst (IsFront c codes 0) (sym e) (record {
-  is = record { ascending = λ i j l m lt f g. absurd (none-some l f); each = All-nil (IsLiteral c) };
-  only = All-nil (λ l. (l.block < 0) × (l ≡ exact l.block (code_of codes l.block)));
-  has = λ b l. absurd (omega arith);
-  extends = λ q h b l. absurd (omega arith);
-  holds = λ q h. All-nil (HoldsCode q);
-})
 
 pub front_free : (c : Choices) (codes : List ℕ) (n : ℕ) (box : List Literal) → IsFront c codes n box → LeavesFree box n
 front_free c codes n box f =

@@ -1,12 +1,12 @@
 //! The best plan of a yard, by one worker, and a log that shows that it is.
-ghost use Rattle.std.specs.Prelude.{◌≡◌, ◌+◌, ◌<◌, [], ℕ, ◌≤◌, IfOk, true, false, Some, length, slice_get};
+ghost use Rattle.std.specs.Prelude.{◌≡◌, ◌+◌, ◌<◌, [], ℕ, ◌≤◌, IfOk, Some, length, slice_get};
 ghost use Rattle.plan_rule.specs.declared.job.Job.{Job};
 ghost use Rattle.plan_rule.specs.Choices.{blocks, count};
 ghost use Rattle.plan_rule.specs.Plans.{IsBest};
 ghost use Rattle.plan_rule.specs.Yards.{choices};
 ghost use Rattle.refutation_log.specs.declared.record.Record.{Record};
 ghost use Rattle.refutation_log.specs.Spelling.{HaveText};
-ghost use Rattle.refutation_log.specs.Steps.{IsAccepted, result_of};
+ghost use Rattle.refutation_log.specs.Steps.{IsAccepted};
 ghost use Rattle.branch_core.specs.Closed.{IsClosedOff};
 ghost use Rattle.branch_core.specs.Solved.{IsRefutation, root};
 
@@ -25,37 +25,6 @@ use std::alloc::Global;
 pub struct Planned {
     pub best: Option<Plan>,
     pub log: Log,
-}
-
-/// Whether the range is all the codes of the block.
-fn is_whole(codes: &Codes, block: u8, lo: u32, hi: u32) -> bool
-    ensures yes { result ≡ true → (lo ≡ 0) × (hi ≡ count (choices codes.now) block) }
-    ensures no { result ≡ false → lo ≡ 0 → hi ≡ count (choices codes.now) block → ⊥ }
-{
-    lo == 0 && hi == count_of(codes, block)
-}
-
-/// Whether the box that the record refutes is the empty box.
-fn refutes_all(codes: &Codes, entry: &Record) -> bool
-    ensures yes { result ≡ true → result_of (choices codes.now) entry.now ≡ [] }
-    ensures no { result ≡ false → result_of (choices codes.now) entry.now ≡ [] → ⊥ }
-{
-    match entry {
-        Record::Branch {
-            block,
-            lo,
-            hi,
-            side,
-            ..
-        } => {
-            if !is_whole(codes, *block, *lo, *hi) {
-                return false;
-            }
-            side.literals().is_empty()
-        }
-        Record::Fit { side } => side.literals().is_empty(),
-        Record::Energy { side, .. } => side.literals().is_empty(),
-    }
 }
 
 /// The first block with one code.
@@ -79,7 +48,7 @@ fn close_off(alloc: Global, codes: &Codes, log: &mut Log, last: u64) -> Result<(
     requires refutes { (e : Record) × (slice_get log.old last ≡ Some e) × IsRefutation (choices codes.now) root e }
     ensures { IfOk result (λ _. IsClosedOff (choices codes.now) log.old log.new) }
 {
-    if refutes_all(codes, &log.records()[last as usize]) {
+    if log.records()[last as usize].refutes_all(codes) {
         return Ok(());
     }
     choices_are_known(codes);

@@ -1,12 +1,10 @@
 -- When one box contains another.
-use Rattle.std.proofs.Common.{◌≡◌, ◌≢◌, ℕ, ◌<◌, ◌≤◌, List, get_or, Bool, true, false, ◌⊎◌, refl, sym, ap, ◌∙◌, inl, inr, arith}
-use Rattle.std.specs.Prelude.{◌==◌, ◌&&◌, if◌then◌else◌}
+use Rattle.std.proofs.Common.{◌≡◌, ◌≢◌, ℕ, ◌<◌, ◌≤◌, List, get_or, ◌⊎◌, refl, sym, ap, ◌∙◌, inl, inr, arith}
 use Rattle.std.specs.List.{All, Any, Contains}
 use Rattle.std.proofs.lemmas.List.Elements.{All-contains, All-contains_itself, All-weaker}
 use Rattle.plan_rule.specs.declared.literal.Literal.{Literal}
 use Rattle.plan_rule.specs.Choices.{Choices, blocks, count}
 use Rattle.plan_rule.specs.Boxes.{IsBox, IsLiteral, IsWhole, LeavesFree, Covers, exact, with_literal}
-use Rattle.branch_kernel.specs.Boxes.{node_box}
 use Rattle.branch_kernel.proofs.WithLaws.{contains_with, with_contains, with_self}
 
 -- the blocks of a box exist
@@ -22,16 +20,6 @@ covers_by c outer inner h k d l = inr (contains_any inner (get_or outer k d) (h 
 
 pub covers_self : (c : Choices) (box : List Literal) → Covers c box box
 covers_self c box = covers_by c box box (All-contains_itself box)
-
-pub covers_with : (c : Choices) (box : List Literal) (l : Literal) → LeavesFree box l.block → Covers c box (with_literal box l)
-covers_with c box l free = covers_by c box (with_literal box l) (contains_with box l free)
-
-pub side_covers : (c : Choices) (side : List Literal) (b lo hi : ℕ) → LeavesFree side b → Covers c side (node_box c side b lo hi)
-side_covers c side b lo hi free = go ((lo == 0) && (hi == count c b))
-  where
-    go : (t : Bool) → Covers c side (if t then side else with_literal side (record { block = b; lo = lo; hi = hi }))
-    go true = covers_self c side
-    go false = covers_with c side (record { block = b; lo = lo; hi = hi }) free
 
 -- what contains a box contains what that box contains
 pub covers_trans : (c : Choices) (outer mid inner : List Literal) → IsBox c outer → Covers c outer mid → Covers c mid inner → Covers c outer inner
@@ -91,20 +79,3 @@ covers_jump c outer side b code names cover k d w = elim (cover k d w) [
         ]
   ]
 ]
-
--- and the node's box with it
-pub covers_node : (c : Choices) (outer side : List Literal) (b lo hi : ℕ) → LeavesFree side b → Covers c outer side → Covers c outer (node_box c side b lo hi)
-covers_node c outer side b lo hi free cover = go ((lo == 0) && (hi == count c b))
-  where
-    l : Literal
-    l = record { block = b; lo = lo; hi = hi }
-
-    go : (t : Bool) → Covers c outer (if t then side else with_literal side l)
-    go true = cover
-    go false = λ k d w. elim (cover k d w) [
-      | inl whole ↦ inl whole
-      | inr some ↦
-          let (j, m, within, is, p) = some in
-          let (i, v, e) = All-contains (Contains (with_literal side l)) side m (contains_with side l free) (j, within, is) in
-          inr (i, m, v, e, p)
-    ]

@@ -1,8 +1,8 @@
 -- Literals that a record does not need may be left out of its side.
-use Rattle.std.proofs.Common.{◌≡◌, ◌≢◌, ℕ, zero, suc, ◌+◌, ◌/◌, ◌^◌, ◌<◌, ◌≤◌, List, [], ◌∷◌, ◌++◌, length, Option, Some, None, ◌⊎◌, refl, sym, ap, ◌∙◌, subst, inl, inr, arith, Bool, true, false}
+use Rattle.std.proofs.Common.{◌≡◌, ◌≢◌, ℕ, zero, suc, ◌+◌, ◌/◌, ◌^◌, ◌<◌, ◌≤◌, List, [], ◌∷◌, length, Option, Some, None, ◌⊎◌, refl, sym, ap, ◌∙◌, subst, inl, inr, arith, Bool, true, false}
 use Rattle.std.specs.List.{All, Contains}
-use Rattle.std.specs.Prelude.{Ok, slice_get, ◌||◌, ◌&&◌, ◌==◌, if◌then◌else◌}
-use Rattle.std.proofs.lemmas.Bool.{cases_lt, cond-true, true≢false}
+use Rattle.std.specs.Prelude.{Ok, slice_get, ◌&&◌, ◌==◌, if◌then◌else◌}
+use Rattle.std.proofs.lemmas.Bool.{cases_lt, cond-true}
 use Rattle.std.proofs.lemmas.List.Elements.{All-filter, All-contains, All-contains_itself, All-weaker, All-head, All-tail}
 use Rattle.std.proofs.lemmas.Option.{none-some, same_Some}
 use Rattle.plan_rule.specs.declared.literal.Literal.{Literal}
@@ -13,24 +13,23 @@ use Rattle.plan_rule.specs.Plans.{total}
 use Rattle.plan_rule.proofs.BoxLaws.{held_covered}
 use Rattle.refutation_log.specs.declared.record.Record.{Record}
 use Rattle.refutation_log.specs.declared.record.Record.TheVariants.{Branch}
-use Rattle.refutation_log.specs.Steps.{IsRange, result_of}
+use Rattle.refutation_log.specs.Steps.{result_of}
 use Rattle.nogood_store.specs.declared.nogood.Nogood.{Nogood}
 use Rattle.branch_kernel.specs.Rivals.{IsRival, Beats}
-use Rattle.branch_kernel.specs.States.{State, relied}
+use Rattle.branch_kernel.specs.States.{State}
 use Rattle.branch_kernel.specs.Known.{AreKnown}
 use Rattle.branch_kernel.specs.Boxes.{kept, IsClear, node_box}
 use Rattle.branch_kernel.specs.Marks.{MarksAll}
 use Rattle.branch_kernel.specs.Nodes.{IsPlace}
 use Rattle.branch_kernel.specs.Stored.{IsKept, IsStored}
-use Rattle.branch_kernel.specs.Unbeaten.{IsAskedSide, IsUnbeaten}
+use Rattle.branch_kernel.specs.Unbeaten.{IsAskedSide}
 use Rattle.branch_kernel.specs.Shows.{IsHandledBy, IsShown, IsHandled, IsAnswered, AreCited}
 use Rattle.branch_kernel.specs.Growth.{Grows}
 use Rattle.branch_kernel.specs.Written.{IsBranchWritten}
-use Rattle.branch_kernel.proofs.RivalLaws.{beats_later, later_none}
-use Rattle.branch_kernel.proofs.GrowthLaws.{handled_clash, handled_piece, handled_base, handled_cite, hit_answers, answered_from, cited_one}
-use Rattle.branch_kernel.proofs.WithLaws.{Rises, rises_from, rises_to, rises_filter, exact_of_literal, exact_contains, contains_filter, with_contains, contains_with, with_self, with_rises, with_all, passed, at_place}
+use Rattle.branch_kernel.proofs.GrowthLaws.{handled_clash, handled_piece, handled_cite, hit_answers, answered_from, cited_one}
+use Rattle.branch_kernel.proofs.WithLaws.{Rises, rises_from, rises_to, rises_filter, exact_of_literal, exact_contains, contains_filter, with_contains, contains_with, with_self, with_all, at_place}
 use Rattle.branch_kernel.proofs.CoverLaws.{exist-box, covers_by}
-use Rattle.branch_kernel.proofs.NodeLaws.{divide_done, handled_more, kept_done, node_is_box, shown_of}
+use Rattle.branch_kernel.proofs.NodeLaws.{divide_done, kept_done, node_is_box, shown_of}
 
 pub kept_box : (c : Choices) (keep : ℕ → Bool) (side : List Literal) → IsBox c side → IsBox c (kept keep side)
 kept_box c keep side h = record {
@@ -131,17 +130,6 @@ kept_fit c keep more side k r rises clear fit fit' =
     bound_falls (MayFit c side) (MayFit c (kept keep (kept more side))) c.cost (blocks c) k r
     (λ b x l may. kept_may_fit c keep (kept more side) b x (rises_filter (λ l. more l.block) side rises) (kept_clear c more side rises clear)
     (kept_may_fit c more side b x rises clear may)) fit fit'
-
--- so no fit of what is kept of a side is above the total, where the fit of a box with more literals is not
-pub asked_side : (c : Choices) (part side : List Literal) (more : ℕ → Bool) (low total : ℕ) → IsBox c part → IsClear c part → IsUnbeaten c part low → low ≤ total
-    → side ≡ kept more part → IsAskedSide c side total
-asked_side c part side more low total is clear unbeaten l e =
-    subst (λ side. IsAskedSide c side total) (sym e)
-    (λ keep r fit. lower r (kept_fit c keep more part unbeaten.fit r (rises_from part is.ascending) clear unbeaten.fit_is fit))
-  where
-    lower : (r : Option ℕ) → IsAtMost r unbeaten.fit → IsAtMost r total
-    lower None m = m
-    lower (Some j) m = let u = unbeaten.low in omega arith
 
 -- of finitely many codes there is a least cost, or there are none
 least_below : (value : ℕ → ℕ) (n : ℕ) → (r : Option ℕ) × IsLeastOf (λ x. x < n) value r
@@ -291,15 +279,6 @@ shown_from c start start' s tie k box g h = record {
   clean = λ right. h.clean (g.clean right);
 }
 
--- one code more is handled
-pub handled_by_more : (c : Choices) (start s s' : State) (tie more_tie : Bool) (side : List Literal) (needs needs' : ℕ → Bool) (cites cites' more : List ℕ) (b lo code : ℕ) → start.bar < 2 ^ 64 → Grows c start s → Grows c s s'
-    → cites' ≡ cites ++ more → ((x : ℕ) → needs x ≡ true → needs' x ≡ true)
-    → ((x : ℕ) → lo ≤ x → x < code → IsHandledBy c start s tie side needs cites b x) → IsHandledBy c s s' more_tie side needs' more b code
-    → (x : ℕ) → lo ≤ x → x < code + 1 → IsHandledBy c start s' (tie || more_tie) side needs' cites' b x
-handled_by_more c start s s' tie more_tie side needs needs' cites cites' more b lo code fits first g e named before now x l h keep some =
-    handled_more c start s s' tie more_tie (kept keep side) cites cites' more b lo code fits first g e
-    (λ x l h. before x l h keep (λ y i. some y (named y i))) (now keep some) x l h
-
 -- a bound that is not below a bound above the bar beats all
 pub beats_over : (c : Choices) (bar j : ℕ) (box : List Literal) (r : Option ℕ) → j < 2 ^ 32 → bar / 2 ^ 32 < j → ((k : ℕ) → r ≡ Some k → j ≤ k) → Beats c bar None box r
 beats_over c bar j box r fits above over = go r over
@@ -313,32 +292,6 @@ beats_over c bar j box r fits above over = go r over
         refutes : (k : ℕ) → j ≤ k → (t : Option (List ℕ)) → IsRival c bar None t → Refutes c t box (Some k)
         refutes k l None rival = absurd (omega arith)
         refutes k l (Some p) rival = let w = rival.1 in let h : total c p < j = omega arith in inl (omega arith)
-
--- the base needs the blocks with whose literals alone it is above the bar
-pub by_base : (c : Choices) (start s : State) (tie : Bool) (side : List Literal) (needs : ℕ → Bool) (cites : List ℕ) (b code j : ℕ) → s.bar < 2 ^ 64 → IsBox c side → LeavesFree side b
-    → j < 2 ^ 32 → s.bar / 2 ^ 32 < j → IsBase c (with_literal (kept needs side) (exact b code)) (Some j) → IsHandledBy c start s tie side needs cites b code
-by_base c start s tie side needs cites b code j low box free fits above base keep some =
-    let (r, is) = base_exists c (with_literal (kept keep side) (exact b code)) in
-    handled_base c start s tie (kept keep side) cites b code r is
-    (beats_later c s.bar s.bar None (relied tie s.best) (with_literal (kept keep side) (exact b code)) r low (later_none c s.bar (relied tie s.best))
-    (beats_over c s.bar j (with_literal (kept keep side) (exact b code)) r fits above
-    (λ k e. bound_falls (MayTake c (with_literal (kept keep side) (exact b code))) (MayTake c (with_literal (kept needs side) (exact b code))) c.cost (blocks c) k (Some j)
-    (λ x y l may. (may.0, λ d exacts. may.1 d (more x d exacts)))
-    (subst (IsBase c (with_literal (kept keep side) (exact b code))) e is) base)))
-  where
-    more : (x d : ℕ) → HasExact (with_literal (kept needs side) (exact b code)) x d → HasExact (with_literal (kept keep side) (exact b code)) x d
-    more x d exacts =
-        exact_of_literal (with_literal (kept keep side) (exact b code)) (exact x d)
-        (with_rises (kept keep side) (exact b code) (rises_filter (λ l. keep l.block) side (rises_from side box.ascending))) refl
-        (elim (with_contains (kept needs side) (exact b code) (exact x d) (exact_contains (with_literal (kept needs side) (exact b code)) x d exacts)) [
-          | inl same ↦ subst (Contains (with_literal (kept keep side) (exact b code))) (sym same) (with_self (kept keep side) (exact b code))
-          | inr inside ↦
-              let held : Contains side (exact x d) = All-contains (Contains side) (kept needs side) (exact x d) (kept_inside needs side) inside in
-              let need : needs x ≡ true = All-contains (λ l. needs l.block ≡ true) (kept needs side) (exact x d) (passed (λ l. needs l.block) side) inside in
-              All-contains (Contains (with_literal (kept keep side) (exact b code))) (kept keep side) (exact x d)
-              (contains_with (kept keep side) (exact b code) (kept_free keep side b free))
-              (contains_filter (λ l. keep l.block) side (exact x d) (some x need) held)
-        ])
 
 -- the box without the literals that were left out contains the node's box
 pub kept_node_covers : (c : Choices) (keep : ℕ → Bool) (side : List Literal) (b lo hi : ℕ) → LeavesFree side b
@@ -412,10 +365,6 @@ place_blocks c side b lo hi few place =
     All-weaker (λ l. l.block < blocks c) (λ l. l.block < 32) (λ l h. omega arith) (node_box c side b lo hi)
     (exist-box c (node_box c side b lo hi) (node_is_box c side b lo hi place))
 
--- a range has a code, or is the whole range of a block without one
-pub node_range : (c : Choices) (b lo hi : ℕ) → IsRange c b lo hi → (lo < hi) ⊎ ((lo ≡ 0) × (hi ≡ count c b))
-node_range c b lo hi r = elim r [ inl some ↦ inl some.0 | inr empty ↦ inr (empty.0, (let x = empty.1 in let y = empty.2 in omega arith)) ]
-
 -- a branch's result is marked, where its side and its block are
 pub marks_branch : (c : Choices) (old new : ℕ → Bool) (b lo hi : ℕ) (side : List Literal) (cites : List ℕ) → MarksAll old side → ((x : ℕ) → old x ≡ true → new x ≡ true)
     → (b < 32 → new b ≡ true) → MarksAll new (result_of c (Branch b lo hi side cites))
@@ -427,17 +376,3 @@ marks_branch c old new b lo hi side cites all keeps here = go ((lo == 0) && (hi 
     go : (t : Bool) → MarksAll new (if t then side else with_literal side (record { block = b; lo = lo; hi = hi }))
     go true = sides
     go false = with_all (λ l. l.block < 32 → new l.block ≡ true) side (record { block = b; lo = lo; hi = hi }) sides here
-
--- no fit of what is kept of a box is above the total, where the box's own fit is not
-pub asked_self : (c : Choices) (side : List Literal) (total : ℕ) → IsBox c side → IsClear c side → IsUnbeaten c side total → IsAskedSide c side total
-asked_self c side total is clear unbeaten keep r fit =
-    lower r (bound_falls (MayFit c side) (MayFit c (kept keep side)) c.cost (blocks c) unbeaten.fit r (λ b x l may. kept_may_fit c keep side b x (rises_from side is.ascending) clear may) unbeaten.fit_is fit)
-  where
-    lower : (r : Option ℕ) → IsAtMost r unbeaten.fit → IsAtMost r total
-    lower None m = m
-    lower (Some j) m = let u = unbeaten.low in omega arith
-
--- a block that is not marked has no literal in a box whose blocks are marked
-pub unmarked : (marks : ℕ → Bool) (box : List Literal) (b : ℕ) → MarksAll marks box → b < 32 → marks b ≡ false → LeavesFree box b
-unmarked marks box b all few none = All-weaker (λ l. l.block < 32 → marks l.block ≡ true) (λ l. l.block ≢ b)
-    (λ l h e. true≢false (sym (h (omega arith)) ∙ subst (λ x. marks x ≡ false) (sym e) none)) box all

@@ -194,12 +194,6 @@ pub grows_falls : (c : Choices) (bar bar' : ℕ) (best : Option (List ℕ)) (log
 grows_falls c bar bar' best log store fits l =
     grows_later c bar bar' best best log store fits (let e = later_self c bar best in record { falls = l; no_worse = e.no_worse })
 
--- the bar falls, and then more comes
-pub grows_after : (c : Choices) (bar bar' : ℕ) (best : Option (List ℕ)) (log : List Record) (store : List Nogood) (s : State) → bar < 2 ^ 64 → bar' ≤ bar
-    → Grows c (record { bar = bar'; best = best; log = log; store = store }) s → Grows c (record { bar = bar; best = best; log = log; store = store }) s
-grows_after c bar bar' best log store s fits l g =
-    grows_trans c _ (record { bar = bar'; best = best; log = log; store = store }) s (omega arith) (grows_falls c bar bar' best log store fits l) g
-
 -- the tags stay numbers of records
 tagged_more : (c : Choices) (log more : List Record) (e : Nogood) → IsTagged c log e → IsTagged c (log ++ more) e
 tagged_more c log more e t = record {

@@ -2,9 +2,9 @@
 use Rattle.std.proofs.Common.{◌≡◌, ℕ, ◌+◌, ◌-◌, ◌/◌, ◌^◌, ◌<◌, ◌≤◌, List, [], ◌∷◌, ◌++◌, length, get_or, Option, Some, None, refl, sym, ap, ◌∙◌, subst, inl, inr, arith, length-append, Bool, true, false}
 use Rattle.std.specs.Prelude.{Result, Ok, Err, IfOk, OnErr, MatchOption, slice_get, ◌||◌, ◌&&◌, ◌==◌, if◌then◌else◌, ◌↔◌}
 use Rattle.std.specs.List.{Contains}
-use Rattle.std.proofs.lemmas.Bool.{cases_lt, eq-eqb, false≢true}
+use Rattle.std.proofs.lemmas.Bool.{eq-eqb, false≢true}
 use Rattle.std.proofs.lemmas.Option.{none-some}
-use Rattle.std.proofs.lemmas.List.Elements.{All-contains, All-contains_itself, Contains-append_left, Contains-append_right}
+use Rattle.std.proofs.lemmas.List.Elements.{All-contains, All-contains_itself}
 use Rattle.shape_exact.specs.declared.memory.NoMemory.{NoMemory}
 use Rattle.plan_rule.specs.declared.literal.Literal.{Literal}
 use Rattle.plan_rule.specs.declared.job.Job.{Job}
@@ -32,7 +32,7 @@ use Rattle.branch_kernel.specs.Shows.{IsAnswered, IsShown, IsHandled, AreCited}
 use Rattle.branch_kernel.specs.Growth.{Grows, IsReady, Runs}
 use Rattle.branch_kernel.specs.Written.{IsWritten, IsBranchWritten}
 use Rattle.branch_kernel.proofs.RivalLaws.{beats_tie, beats_leaf}
-use Rattle.branch_kernel.proofs.GrowthLaws.{slice_get-last, grows_self, grows_later, grows_falls, grows_onto, grows_add, grows_store, handled_base, handled_later, handled_from, cited_later, cited_from, cited_append, cited_none, branch_steps, branch_answers, covered_cites, fit_answers, energy_answers, rival_relied, stored_later}
+use Rattle.branch_kernel.proofs.GrowthLaws.{slice_get-last, grows_self, grows_later, grows_falls, grows_onto, grows_add, grows_store, handled_base, cited_later, cited_from, cited_append, cited_none, branch_steps, branch_answers, covered_cites, fit_answers, energy_answers, rival_relied, stored_later}
 use Rattle.branch_kernel.proofs.WithLaws.{exact_base, with_box, in_range_below, child_open}
 use Rattle.branch_kernel.proofs.CoverLaws.{covers_self}
 
@@ -98,24 +98,6 @@ or_first false b e = absurd (false≢true e)
 pub or_second : (a b : Bool) → b ≡ true → (a || b) ≡ true
 or_second true b e = refl
 or_second false b e = e
-
--- one code more is handled
-pub handled_more : (c : Choices) (start s s' : State) (tie more_tie : Bool) (side : List Literal) (cites cites' more : List ℕ) (b lo code : ℕ) → start.bar < 2 ^ 64 → Grows c start s → Grows c s s'
-    → cites' ≡ cites ++ more
-    → ((x : ℕ) → lo ≤ x → x < code → IsHandled c start s tie side cites b x) → IsHandled c s s' more_tie side more b code
-    → (x : ℕ) → lo ≤ x → x < code + 1 → IsHandled c start s' (tie || more_tie) side cites' b x
-handled_more c start s s' tie more_tie side cites cites' more b lo code fits first g e before now x l h =
-    let d = first.later.falls in
-    let d' = g.later.falls in
-    subst (λ cites. IsHandled c start s' (tie || more_tie) side cites b x) (sym e) (elim (cases_lt x code) [
-      | inl old ↦ handled_later c start s s' tie (tie || more_tie) side cites (cites ++ more) b x (omega arith) g (or_first tie more_tie)
-          (λ k i. Contains-append_left cites more k i) (before x l old)
-      | inr new ↦
-          let f : code ≡ x = omega arith in
-          subst (IsHandled c start s' (tie || more_tie) side (cites ++ more) b) f
-          (handled_later c start s' s' more_tie (tie || more_tie) side more (cites ++ more) b code (omega arith) (grows_self c s') (or_second tie more_tie)
-          (λ k i. Contains-append_right cites more k i) (handled_from c start s s' more_tie side more b code first now))
-    ])
 
 -- and what is cited for it
 pub cited_once_more : (c : Choices) (start s s' : State) (tie more_tie : Bool) (cites cites' more : List ℕ) → start.bar < 2 ^ 64 → Grows c start s → Grows c s s' → cites' ≡ cites ++ more
@@ -372,12 +354,6 @@ pub branch_written : (result : Result ℕ NoMemory) (old new : List Record) (ran
     → IsBranchWritten result old new range side items
 branch_written (Ok k) old new range side items list cites e same number pushed kept = (list, number, subst (λ cites. new ≡ old ++ Branch range.block range.lo range.hi side cites ∷ []) e pushed, same)
 branch_written (Err x) old new range side items list cites e same number pushed kept = kept
-
-pub ready_falls : (c : Choices) (job : Job) (bar bar' : ℕ) (best : Option (List ℕ)) (log : List Record) (store : List Nogood)
-    → IsReady c job (record { bar = bar; best = best; log = log; store = store }) → bar' ≤ bar → IsReady c job (record { bar = bar'; best = best; log = log; store = store })
-ready_falls c job bar bar' best log store ready falls =
-    ready_later c job (record { bar = bar; best = best; log = log; store = store }) (record { bar = bar'; best = best; log = log; store = store }) ready
-    (runs_falls c job bar bar' best log store ready falls)
 
 -- a plan was taken
 pub runs_later : (c : Choices) (job : Job) (bar bar' : ℕ) (best best' : Option (List ℕ)) (log : List Record) (store : List Nogood)

@@ -1,8 +1,8 @@
 -- The ways in which one code of a block is settled beside a side.
-use Rattle.std.proofs.Common.{◌≡◌, ℕ, ◌+◌, ◌<◌, List, [], ◌∷◌, length, get_or, Option, Some, sym, ap, ◌∙◌, subst, arith, Bool, true, false}
+use Rattle.std.proofs.Common.{◌≡◌, ℕ, ◌+◌, ◌<◌, List, [], ◌∷◌, get_or, Option, Some, ap, ◌∙◌, subst, arith, Bool, true, false}
 use Rattle.std.specs.Prelude.{slice_get}
 use Rattle.std.proofs.lemmas.List.Elements.{All-contains}
-use Rattle.std.proofs.lemmas.Option.{get_or_from_slice_get, slice_get_within}
+use Rattle.std.proofs.lemmas.Option.{get_or_from_slice_get}
 use Rattle.plan_rule.specs.declared.literal.Literal.{Literal}
 use Rattle.plan_rule.specs.declared.job.Job.{Job}
 use Rattle.plan_rule.specs.Choices.{Choices, MeetsSome}
@@ -72,7 +72,3 @@ by_a_record c job start start' s tie side child needs b code k l records d known
     let here : d ≡ shown.record_is = is ∙ ap (λ log. get_or log k d) same ∙ get_or_from_slice_get s.log k shown.record_is d shown.at in
     child_handles c start start' s tie side child needs b code k node.free (f ∙ ap (with_literal side) e) g shown
     (marks_box c needs (result_of c shown.record_is) known shown.result_is (subst (λ r. MarksAll needs (result_of c r)) here marks))
-
--- the record's number is below the log's length
-pub shown_below : (c : Choices) (start s : State) (tie : Bool) (k : ℕ) (box : List Literal) (records : List Record) → IsShown c start s tie k box → records ≡ s.log → k < length records
-shown_below c start s tie k box records shown same = subst (λ log. k < length log) (sym same) (slice_get_within s.log k shown.record_is shown.at)

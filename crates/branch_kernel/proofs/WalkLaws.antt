@@ -136,11 +136,6 @@ by_a_part c start s tie side part needs l k records d known free e shown same is
         })
         named
 
--- one code is a range
-pub one_of_range : (c : Choices) (start s : State) (tie : Bool) (side : List Literal) (needs : ℕ → Bool) (cites : List ℕ) (b lo hi : ℕ) → hi - lo ≡ 1 → IsHandledBy c start s tie side needs cites b lo
-    → (x : ℕ) → lo ≤ x → x < hi → IsHandledBy c start s tie side needs cites b x
-one_of_range c start s tie side needs cites b lo hi one handled x l h = let e : lo ≡ x = omega arith in subst (IsHandledBy c start s tie side needs cites b) e handled
-
 -- some of a node's codes
 pub node_part : (c : Choices) (job : Job) (side : List Literal) (b lo hi from to : ℕ) → IsNode c job side b lo hi → lo ≤ from → to ≤ hi → from < to → IsNode c job side b from to
 node_part c job side b lo hi from to node low high some = record {

@@ -1,9 +1,9 @@
 -- A side with one exact literal more.
-use Rattle.std.proofs.Common.{◌≡◌, ◌≢◌, ℕ, zero, suc, ◌+◌, ◌<◌, ◌≤◌, List, [], ◌∷◌, ◌++◌, length, get_or, Bool, true, false, cond, Some, ◌⊎◌, refl, sym, ap, ◌∙◌, subst, inl, inr, arith, length-append}
-use Rattle.std.specs.Prelude.{nat_lt, slice_get, ◌==◌, ◌&&◌, if◌then◌else◌}
+use Rattle.std.proofs.Common.{◌≡◌, ◌≢◌, ℕ, zero, suc, ◌+◌, ◌<◌, ◌≤◌, List, [], ◌∷◌, ◌++◌, length, get_or, Bool, true, false, cond, Some, ◌⊎◌, refl, sym, ap, ◌∙◌, subst, inl, inr, arith}
+use Rattle.std.specs.Prelude.{nat_lt, slice_get, ◌==◌, if◌then◌else◌}
 use Rattle.std.specs.List.{All, Contains, filter}
 use Rattle.std.proofs.lemmas.List.Elements.{All-contains, All-filter, All-append, All-cons, All-head, All-tail, All-nil, All-weaker, All-contains_itself, Contains-append_left, Contains-append_right}
-use Rattle.std.proofs.lemmas.Bool.{cases_lt, cases_order, lt-ltb, ltb-true, le-ltb, eq-eqb, ne_eqb, false≢true, true≢false}
+use Rattle.std.proofs.lemmas.Bool.{cases_lt, cases_order, lt-ltb, ltb-true, eq-eqb, ne_eqb, false≢true, true≢false}
 use Rattle.std.proofs.lemmas.Option.{none-some, same_Some, slice_get_within, slice_get-get_or, get_or_from_slice_get}
 use Rattle.plan_rule.specs.declared.literal.Literal.{Literal}
 use Rattle.plan_rule.specs.declared.job.Job.{Job}
@@ -16,7 +16,7 @@ use Rattle.plan_rule.specs.Choices.{Choices, MeetsSome, blocks, count}
 use Rattle.plan_rule.specs.Plans.{code_of, IsPlan, IsFeasible, total}
 use Rattle.plan_rule.specs.Boxes.{IsBox, IsLiteral, IsAscending, LeavesFree, HasExact, exact, with_literal}
 use Rattle.branch_kernel.specs.Known.{AreKnown}
-use Rattle.branch_kernel.specs.Boxes.{IsClear, Clashes, HasExactAll, node_box}
+use Rattle.branch_kernel.specs.Boxes.{IsClear, Clashes, HasExactAll}
 use Rattle.branch_kernel.specs.Nodes.{IsNode, IsOpenBox}
 
 -- the blocks rise along the list
@@ -94,33 +94,6 @@ with_box c box l h k = record {
   ascending = rises_to (with_literal box l) (with_rises box l (rises_from box h.ascending));
   each = with_all (IsLiteral c) box l h.each k;
 }
-
--- the two parts of a box on both sides of a free block
-both_parts : (b : ℕ) (box : List Literal) → LeavesFree box b → length (filter (λ m. nat_lt m.block b) box) + length (filter (λ m. nat_lt b m.block) box) ≡ length box
-both_parts b [] free = refl
-both_parts b (x ∷ box) free =
-    go (nat_lt x.block b) (nat_lt b x.block) x _ _ box (both_parts b box (All-tail (λ l. l.block ≢ b) x box free)) (one x (All-head (λ l. l.block ≢ b) x box free))
-  where
-    one : (x : Literal) → x.block ≢ b → ((nat_lt x.block b ≡ true) × (nat_lt b x.block ≡ false)) ⊎ ((nat_lt x.block b ≡ false) × (nat_lt b x.block ≡ true))
-    one x ne = elim (cases_order x.block b) [
-      | inl e ↦ absurd (ne e)
-      | inr o ↦ elim o [
-        | inl l ↦ inl (lt-ltb x.block b l, le-ltb b x.block (omega arith))
-        | inr l ↦ inr (le-ltb x.block b (omega arith), lt-ltb b x.block l)
-      ]
-    ]
-
-    go : (s t : Bool) (x : Literal) (xs ys box : List Literal) → length xs + length ys ≡ length box → ((s ≡ true) × (t ≡ false)) ⊎ ((s ≡ false) × (t ≡ true))
-        → length (cond s (x ∷ xs) xs) + length (cond t (x ∷ ys) ys) ≡ suc (length box)
-    go true true x xs ys box e h = absurd (elim h [ inl a ↦ true≢false a.1 | inr a ↦ true≢false a.0 ])
-    go true false x xs ys box e h = omega arith
-    go false true x xs ys box e h = omega arith
-    go false false x xs ys box e h = absurd (elim h [ inl a ↦ false≢true a.0 | inr a ↦ false≢true a.1 ])
-
-pub with_length : (box : List Literal) (l : Literal) → LeavesFree box l.block → length (with_literal box l) ≡ length box + 1
-with_length box l free =
-    let n = length-append (filter (λ m. nat_lt m.block l.block) box) (l ∷ filter (λ m. nat_lt l.block m.block) box) in
-    let m = both_parts l.block box free in omega arith
 
 pub if_true : {A : Type 0} (b : Bool) (x y : A) → b ≡ true → (if b then x else y) ≡ x
 if_true true x y e = refl
@@ -207,9 +180,6 @@ contains_with box l free k d m =
             (let (k, w, e) = contains_filter (λ m. nat_lt l.block m.block) box x (lt-ltb l.block x.block gt) inside in (suc k, omega arith, e))
       ]
     ]
-
-pub node_box_whole : (c : Choices) (side : List Literal) (b : ℕ) → node_box c side b 0 (count c b) ≡ side
-node_box_whole c side b = if_true ((0 == 0) && (count c b == count c b)) _ _ (subst (λ t. ((0 == 0) && t) ≡ true) (sym (eq-eqb (count c b) (count c b) refl)) refl)
 
 -- the literal of a code that exists
 pub exact_literal : (c : Choices) (b code : ℕ) → b < blocks c → code < count c b → IsLiteral c (exact b code)

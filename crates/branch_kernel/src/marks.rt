@@ -6,7 +6,7 @@ use plan_rule::PlanBox;
 use std::marker::Model;
 
 /// A set of blocks. Contracts see it as one mark for each of 32 blocks.
-#[derive(Drop)]
+#[derive(Clone, Copy, Drop)]
 pub struct Blocks {
     marks: [bool; 32],
 }

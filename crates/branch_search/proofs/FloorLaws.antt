@@ -7,7 +7,7 @@ use Rattle.tardiness_bounds.specs.declared.bound.Bound.TheVariants.{Number}
 use Rattle.tardiness_bounds.specs.Numbers.{number}
 use Rattle.std.proofs.lemmas.Bool.{cases_eq, cases_lt}
 use Rattle.std.proofs.lemmas.List.Elements.{All-contains}
-use Rattle.std.proofs.lemmas.Option.{same_Some, none-some}
+use Rattle.std.proofs.lemmas.Option.{same_Some}
 use Rattle.plan_rule.specs.declared.literal.Literal.{Literal}
 use Rattle.plan_rule.specs.Choices.{Choices, blocks, count}
 use Rattle.plan_rule.specs.Plans.{total}
@@ -107,19 +107,6 @@ base_rises c keep needs side b x y k r is free exists some cheap base base' =
         omega arith,
       )
     ]
-
--- a bound above the bar's total beats from there on
-pub above_from : (c : Choices) (bar : ℕ) (part : List Literal) (j : ℕ) → j < 2 ^ 32 → bar / 2 ^ 32 < j → BeatsFrom c bar None part (Some j)
-above_from c bar part j fits above box k is inside less = beats_over c bar j box k fits above (over k less)
-  where
-    over : (k : Option ℕ) → IsNoLess k (Some j) → (n : ℕ) → k ≡ Some n → j ≤ n
-    over None less n e = absurd (none-some n e)
-    over (Some m) less n e = let f = same_Some m n e in omega arith
-
--- Never beats from there on
-pub never_from : (c : Choices) (bar : ℕ) (best : Option (List ℕ)) (part : List Literal) → BeatsFrom c bar best part None
-never_from c bar best part box None is inside less = record { refutes = λ t rival. tt; settles = λ q feasible held most. absurd most }
-never_from c bar best part box (Some k) is inside less = absurd less
 
 -- a box is behind a plan where a box with fewer literals is
 behind_more : (c : Choices) (part box : List Literal) (m : List ℕ) → IsBox c box → All (Contains box) part → IsBehind c part m → IsBehind c box m

@@ -1,4 +1,3 @@
-pub mod OpenLaws
 pub mod CycleLaws
 pub mod FitLaws
 pub mod FloorLaws

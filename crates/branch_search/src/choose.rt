@@ -7,7 +7,6 @@ ghost use Rattle.plan_rule.specs.Yards.{choices};
 
 use crate::Hints;
 use crate::levels::Level;
-use crate::open::exact_in;
 use branch_kernel::{count_of, range_on};
 use code_table::Codes;
 use plan_rule::{Literal, Plan, PlanBox, block_count, total};
@@ -166,7 +165,7 @@ fn fewest(
     let mut chosen = first;
     let mut least = u64::MAX;
     for block in 0..block_count(codes) {
-        let None = exact_in(part, block) else {
+        let None = part.exact_code(block) else {
             continue;
         };
         let score = score_of(codes, front, part, hints, most, block, least);

@@ -13,7 +13,7 @@ use std::alloc::Global;
 #[derive(Clone, Copy, Drop)]
 struct LastSide {
     cost: u32,
-    marks: [bool; 32],
+    marks: Blocks,
 }
 
 /// A code of a block that is settled without a box of its own, which blocks the record that covers it needs anyway, and what
@@ -22,7 +22,7 @@ struct LastSide {
 struct Rest {
     block: u8,
     code: u32,
-    needed: [bool; 32],
+    needed: Blocks,
     last: Option<LastSide>,
 }
 
@@ -101,10 +101,6 @@ impl Hints {
             self.rest = None;
             return;
         }
-        let mut needed = [false; 32];
-        for other in 0..32u8 {
-            needed[usize::from(other)] = needs.has(other);
-        }
         let last = match &self.rest {
             Some(rest) => rest.last,
             None => None,
@@ -112,7 +108,7 @@ impl Hints {
         self.rest = Some(Rest {
             block,
             code,
-            needed,
+            needed: *needs,
             last,
         });
     }
@@ -120,7 +116,7 @@ impl Hints {
     /// Whether the record that covers a code without a box of its own needs the block anyway.
     pub(crate) fn is_needed(&self, block: u8) -> bool {
         match &self.rest {
-            Some(rest) => block < 32 && rest.needed[usize::from(block)],
+            Some(rest) => rest.needed.has(block),
             None => false,
         }
     }
@@ -128,12 +124,8 @@ impl Hints {
     /// The fit of these literals refuted a box.
     pub(crate) fn note_side(&mut self, codes: &Codes, side: &PlanBox) {
         if let Some(rest) = &mut self.rest {
-            let mut marks = [false; 32];
-            for l in side.literals() {
-                if l.block < 32 {
-                    marks[usize::from(l.block)] = true;
-                }
-            }
+            let mut marks = Blocks::none();
+            marks.add_all(side);
             let cost = cost_of(codes, rest.block, rest.code);
             rest.last = Some(LastSide { cost, marks });
         }
@@ -150,13 +142,7 @@ impl Hints {
         if last.cost != cost_of(codes, rest.block, rest.code) {
             return None;
         }
-        let mut marks = Blocks::none();
-        for block in 0..32u8 {
-            if last.marks[usize::from(block)] {
-                marks.add(block);
-            }
-        }
-        Some(marks)
+        Some(last.marks)
     }
 
     /// The place in the store of a box that contains this box, if one is found: the box has the code `own`, and the

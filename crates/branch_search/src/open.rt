@@ -1,32 +1,12 @@
 //! Blocks that a box leaves open.
-ghost use Rattle.std.specs.Prelude.{◌≡◌, ◌+◌, ◌<◌, ◌==◌, ℕ, if◌then◌else◌, MatchOption, None};
+ghost use Rattle.std.specs.Prelude.{◌≡◌, ◌<◌, MatchOption, None};
 ghost use Rattle.plan_rule.specs.Choices.{blocks};
-ghost use Rattle.plan_rule.specs.Boxes.{IsBox, exact_code};
+ghost use Rattle.plan_rule.specs.Boxes.{exact_code};
 ghost use Rattle.plan_rule.specs.Yards.{choices};
 ghost use Rattle.branch_kernel.specs.Boxes.{IsWholePlan};
 
 use code_table::Codes;
-use plan_rule::{Literal, PlanBox, block_count};
-
-/// The code of a literal that has one code alone. None where it has more.
-fn only_code(l: Literal) -> Option<u32>
-    requires { l.lo < l.hi }
-    ensures { result ≡ (if l.hi == l.lo + 1 then Some l.lo else None) }
-{
-    if l.hi - l.lo == 1 { Some(l.lo) } else { None }
-}
-
-/// The code that the box sets a block to. None where it sets it to none.
-pub(crate) fn exact_in(part: &PlanBox, block: u8) -> Option<u32>
-    ensures { result ≡ exact_code part.now block }
-{
-    for l in part.literals() {
-        if l.block == block {
-            return only_code(*l);
-        }
-    }
-    None
-}
+use plan_rule::{PlanBox, block_count};
 
 /// The first block that the box sets to no code; None where it sets each to one.
 pub(crate) fn first_open(codes: &Codes, part: &PlanBox) -> Option<u8>
@@ -34,7 +14,7 @@ pub(crate) fn first_open(codes: &Codes, part: &PlanBox) -> Option<u8>
         (λ b. (b < blocks (choices codes.now)) × (exact_code part.now b ≡ None)) }
 {
     for block in 0..block_count(codes) {
-        let Some(_code) = exact_in(part, block) else {
+        let Some(_code) = part.exact_code(block) else {
             return Some(block);
         };
     }

@@ -1,9 +1,8 @@
 -- The positions of a run, and the first of them at or after a given one.
-use Rattle.std.proofs.Common.{◌≡◌, ℕ, zero, suc, ◌+◌, ◌-◌, ◌*◌, ◌<◌, ◌≤◌, Bool, true, false, List, [], ◌∷◌, ◌++◌, length, take, drop, get_or, map, Option, Some, None, is_some, arith, refl, sym, ◌∙◌, ap, subst, ⊎_elim}
+use Rattle.std.proofs.Common.{◌≡◌, ℕ, zero, suc, ◌+◌, ◌-◌, ◌<◌, ◌≤◌, Bool, true, false, List, [], ◌∷◌, ◌++◌, length, take, drop, get_or, map, Option, Some, None, is_some, arith, refl, sym, ◌∙◌, ap, subst, ⊎_elim}
 use Rattle.std.specs.List.{find, range_with_len}
-use Rattle.std.proofs.lemmas.Bool.{cases_lt, cases_Bool, cond-true, cond-false, lt-ltb, le-ltb}
+use Rattle.std.proofs.lemmas.Bool.{cases_lt, cases_Bool, cond-true, cond-false}
 use Rattle.shape_exact.specs.declared.point.Point.{Point}
-use Rattle.lattice_free.specs.Order.{is_from}
 use Rattle.lattice_free.specs.declared.run.Run.{Run}
 use Rattle.lattice_free.specs.Runs.{place, run_points, points_of}
 use Rattle.std.proofs.lemmas.List.FromFn.{length-map-range_with_len}
@@ -27,12 +26,6 @@ find_at q f a (suc n) j l r h t = ⊎_elim (λ o. later o (find_at q f (a + 1) n
 
     here : j ≤ a → find q (map f (range_with_len a (suc n))) ≡ Some (f j)
     here o = let e : j ≡ a = omega arith in cond-true (q (f a)) _ _ (subst (λ (k : ℕ). q (f k) ≡ true) e t) ∙ ap (λ (k : ℕ). Some (f k)) (sym e)
-
-pub from_right : (pitch row k y x : ℕ) → row * pitch ≡ y → x ≤ k * pitch → is_from y x (place pitch row k) ≡ true
-from_right pitch row k y x e h = grind (arith, lt-ltb, le-ltb)
-
-pub from_left : (pitch row k y x : ℕ) → row * pitch ≡ y → k * pitch < x → is_from y x (place pitch row k) ≡ false
-from_left pitch row k y x e h = grind (arith, lt-ltb, le-ltb)
 
 -- the first that passes of two lists, one after the other
 pub find-append_some : (q : Point → Bool) (xs ys : List Point) (p : Point) → find q xs ≡ Some p → find q (xs ++ ys) ≡ Some p

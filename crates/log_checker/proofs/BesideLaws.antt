@@ -1,9 +1,8 @@
 -- What a box fixes, and which literals it has, with a literal more.
-use Rattle.std.proofs.Common.{◌≡◌, ◌≢◌, ℕ, zero, suc, ◌+◌, ◌<◌, List, [], ◌∷◌, ◌++◌, Bool, true, false, cond, Option, Some, None, ◌⊎◌, refl, sym, ap, ◌∙◌, inl, inr, arith}
-use Rattle.std.specs.Prelude.{slice_get, nat_lt, ◌==◌, ◌↔◌, if◌then◌else◌}
-use Rattle.std.specs.List.{All, AllWithin, Contains, filter}
+use Rattle.std.proofs.Common.{◌≡◌, ◌≢◌, ℕ, ◌+◌, ◌<◌, List, [], ◌∷◌, ◌++◌, Bool, true, false, cond, Option, Some, None, ◌⊎◌, refl, sym, ap, ◌∙◌, inl, inr, arith}
+use Rattle.std.specs.Prelude.{nat_lt, ◌==◌, ◌↔◌, if◌then◌else◌}
+use Rattle.std.specs.List.{All, Contains, filter}
 use Rattle.std.proofs.lemmas.Bool.{cases_Bool, cases_order, lt-ltb, le-ltb, eq-eqb, ne_eqb, cond-true, cond-false, true≢false}
-use Rattle.std.proofs.lemmas.Option.{none-some, same_Some}
 use Rattle.std.proofs.lemmas.List.Elements.{All-contains, All-contains_itself, All-filter, All-cons, All-nil, All-head, All-tail, All-weaker, filter_passes, Contains-append_left, Contains-append_right, Contains-append_cases}
 use Rattle.plan_rule.specs.declared.literal.Literal.{Literal}
 use Rattle.plan_rule.specs.Boxes.{LeavesFree, exact_code, exact, with_literal}
@@ -29,17 +28,6 @@ nothing_exact (l ∷ xs) a free =
 in_front : (xs ys : List Literal) (a : ℕ) → LeavesFree ys a → exact_code (xs ++ ys) a ≡ exact_code xs a
 in_front [] ys a free = nothing_exact ys a free
 in_front (l ∷ xs) ys a free = ap (λ o. if l.block == a then code_alone l else o) (in_front xs ys a free)
-
--- the first literal on a block says whether it is exact
-pub exact_first : (box : List Literal) (i b : ℕ) (l : Literal) → AllWithin (λ m. m.block ≢ b) box 0 i → slice_get box i ≡ Some l → l.block ≡ b
-    → exact_code box b ≡ (if l.hi == l.lo + 1 then Some l.lo else None)
-exact_first [] i b l none at on = absurd (none-some l at)
-exact_first (m ∷ box) zero b l none at on =
-    let same : m ≡ l = same_Some m l at in
-    cond-true (m.block == b) (code_alone m) (exact_code box b) (eq-eqb m.block b (ap (λ (x : Literal). x.block) same ∙ on)) ∙ ap code_alone same
-exact_first (m ∷ box) (suc i) b l none at on =
-    cond-false (m.block == b) (code_alone m) (exact_code box b) (ne_eqb m.block b (none 0 m (omega arith) (omega arith)))
-    ∙ exact_first box i b l (λ k d low high. none (suc k) d (omega arith) (omega arith)) at on
 
 -- a filter that keeps the literals on a block keeps what is exact there
 kept : (test : ℕ → Bool) (box : List Literal) (a : ℕ) → test a ≡ true → exact_code (filter (λ m. test m.block) box) a ≡ exact_code box a

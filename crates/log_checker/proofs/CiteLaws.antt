@@ -1,5 +1,5 @@
 -- The spans of the codes that cited records cover, record by record.
-use Rattle.std.proofs.Common.{◌≡◌, ℕ, ◌<◌, ◌≤◌, List, [], ◌∷◌, ◌++◌, ◌+◌, length, get_or, take, refl, Option, Some, ◌⊎◌, sym, ap, ◌∙◌, subst, inl, inr, arith}
+use Rattle.std.proofs.Common.{◌≡◌, ℕ, ◌<◌, ◌≤◌, List, [], ◌∷◌, ◌++◌, ◌+◌, length, get_or, take, refl, Option, Some, ◌⊎◌, sym, ap, ◌∙◌, subst, inl, inr}
 use Rattle.std.specs.Prelude.{◌↔◌, slice_get}
 use Rattle.std.specs.List.{All, Any}
 use Rattle.std.specs.List.Sorted.{IsPermutation}
@@ -17,13 +17,6 @@ use Rattle.log_checker.specs.Forms.{HasForm}
 use Rattle.log_checker.proofs.SpanLaws.{branch_span}
 use Rattle.log_checker.specs.declared.span.Span.{Span}
 use Rattle.log_checker.specs.Spans.{InOne, AreCited, Has, IsSpanOf}
-
--- nothing is cited
-pub cited_none : (c : Choices) (earlier : List Record) (side : List Literal) (b : ℕ) → AreCited c earlier [] side b []
-cited_none c earlier side b code is = (
-  λ h. let l = h.2 in absurd (omega arith),
-  λ h. let l = h.2.1 in absurd (omega arith),
-)
 
 -- a record more is cited
 cited_more : (c : Choices) (earlier : List Record) (cites : List ℕ) (side : List Literal) (b : ℕ) (spans more : List Span) (k : ℕ) (r : Record)

@@ -148,14 +148,6 @@ met_by_places yard f b p first second false s may told =
       λ m. refl,
     )
 
--- placements that may clash, by their footprints and the points to which these are shifted
-pub met_by_shapes : (yard : PlainYard) (f : Exact) (b : ℕ) (p : Placement) (first second : List Point) (u v : Point) (apart : Bool)
-    → AreTurned yard f b p first second → MayClash f.place p → u ≡ place_of f.place → v ≡ place_of p
-    → (IsTrue apart ↔ AreApart first u second v) → IsTrue (not apart) ↔ ClashesAt yard f b p
-met_by_shapes yard f b p first second u v apart s may e g told =
-    met_by_places yard f b p first second apart s may
-    (subst (λ w. IsTrue apart ↔ AreApart first w second (place_of p)) e (subst (λ w. IsTrue apart ↔ AreApart first u second w) g told))
-
 -- one of the blocks that a side fixes meets the placement of a code exactly where the side fixes a code that clashes with it
 pub met_or_clash : (yard : PlainYard) (side : List Literal) (list : List Exact) (b code : ℕ) (p : Placement) → AreExact yard side list
     → slice_get (placements yard b) code ≡ Some p

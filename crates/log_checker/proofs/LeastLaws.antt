@@ -99,15 +99,6 @@ least_done P value limit n floor (Some b) h later worse =
       h.1,
     )
 
--- and so it is where no number with the property is left
-pub least_all : (P : ℕ → Type 0) (value : ℕ → ℕ) (limit n : ℕ) (best : Option ℕ) → IsLeastUpTo (Below P n) value limit best
-    → ((x : ℕ) → P x → x < n) → IsLeastUpTo P value limit best
-least_all P value limit n None h all = λ x p. h x (all x p, p)
-least_all P value limit n (Some b) h all = (
-  ((let (x, w, is) = h.0.0 in (x, w.1, is)), λ x p. h.0.1 x (all x p, p)),
-  h.1,
-)
-
 -- the least of the numbers with a property is that of the numbers with the same one in other words
 pub least_same : (P Q : ℕ → Type 0) (value : ℕ → ℕ) (limit : ℕ) (o : Option ℕ) → ((x : ℕ) → P x → Q x) → ((x : ℕ) → Q x → P x)
     → IsLeastUpTo P value limit o → IsLeastUpTo Q value limit o

@@ -1,11 +1,10 @@
 -- What is hindered beside some exact blocks is so beside more of them.
-use Rattle.std.proofs.Common.{◌≡◌, ℕ, ◌+◌, ◌<◌, ◌≤◌, List, [], length, get_or, replicate, true, ◌⊎◌, sym, ap, ◌∙◌, subst, inl, inr, arith}
-use Rattle.std.specs.Prelude.{All, Contains, None, nat_eq, ◌&&◌, slice_index, slice_set}
-use Rattle.std.proofs.lemmas.Bool.{cases_eq, cases_lt, eqb-true}
+use Rattle.std.proofs.Common.{◌≡◌, ℕ, ◌+◌, ◌<◌, ◌≤◌, List, [], length, get_or, replicate, ◌⊎◌, sym, ap, ◌∙◌, subst, inl, inr, arith}
+use Rattle.std.specs.Prelude.{All, Contains, None, slice_index, slice_set}
+use Rattle.std.proofs.lemmas.Bool.{cases_eq, cases_lt}
 use Rattle.std.proofs.lemmas.List.{get_or-replicate, get_or-set_other, get_or-set_same, get_or_default}
 use Rattle.std.proofs.lemmas.List.Elements.{All-contains}
 use Rattle.shape_exact.specs.Yards.{PlainYard}
-use Rattle.code_table.specs.declared.placement.Placement.{Placement}
 use Rattle.log_checker.specs.declared.exact.Exact.{Exact}
 use Rattle.log_checker.specs.ExactBlocks.{IsStanding}
 use Rattle.log_checker.specs.Leasts.{IsLeastClearBelow}
@@ -13,33 +12,7 @@ use Rattle.log_checker.specs.PassedCodes.{AreHinderedTo}
 use Rattle.log_checker.specs.Spans.{InOne}
 use Rattle.log_checker.specs.Walks.{IsHindered}
 use Rattle.log_checker.proofs.FreeLaws.{not_clear}
-use Rattle.log_checker.proofs.OffsetLaws.{both}
 use Rattle.log_checker.proofs.WalkLaws.{in_no_span}
-
--- exact blocks whose parts are equal
-pub same_exact : (f g : Exact)
-    → (nat_eq f.block g.block && (nat_eq f.place.start g.place.start && (nat_eq f.place.end g.place.end && (nat_eq f.place.plate g.place.plate
-    && (nat_eq f.place.turn g.place.turn && (nat_eq f.place.y g.place.y && nat_eq f.place.x g.place.x)))))) ≡ true
-    → f ≡ g
-same_exact f g e =
-    let a = both _ _ e in
-    let b = both _ _ a.1 in
-    let c = both _ _ b.1 in
-    let d = both _ _ c.1 in
-    let h = both _ _ d.1 in
-    let i = both _ _ h.1 in
-    let p : Placement = f.place in
-    let q : Placement = g.place in
-    ap (λ n. made n p.start p.end p.plate p.turn p.y p.x) (eqb-true _ _ a.0)
-    ∙ ap (λ n. made g.block n p.end p.plate p.turn p.y p.x) (eqb-true _ _ b.0)
-    ∙ ap (λ n. made g.block q.start n p.plate p.turn p.y p.x) (eqb-true _ _ c.0)
-    ∙ ap (λ n. made g.block q.start q.end n p.turn p.y p.x) (eqb-true _ _ d.0)
-    ∙ ap (λ n. made g.block q.start q.end q.plate n p.y p.x) (eqb-true _ _ h.0)
-    ∙ ap (λ n. made g.block q.start q.end q.plate q.turn n p.x) (eqb-true _ _ i.0)
-    ∙ ap (λ n. made g.block q.start q.end q.plate q.turn q.y n) (eqb-true _ _ i.1)
-  where
-    made : ℕ → ℕ → ℕ → ℕ → ℕ → ℕ → ℕ → Exact
-    made b s e l t y x = record { block = b; place = record { start = s; end = e; plate = l; turn = t; y = y; x = x } }
 
 -- a code that some exact blocks or a piece hinder is hindered beside more of them
 pub hindered_more : (yard : PlainYard) (list exacts : List Exact) (b k : ℕ) → All (Contains exacts) list → IsHindered yard list b k → IsHindered yard exacts b k

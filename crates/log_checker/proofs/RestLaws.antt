@@ -83,9 +83,6 @@ SumsBeside c side b n s =
     → (n ≤ b → IsSumOfLeast (MayTake c (with_literal side (exact b code))) c.cost n s)
     × (b < n → IsSumOfLeast (MayTake c (with_literal side (exact b code))) c.cost n (s + c.cost b code))
 
-pub sums_none : (c : Choices) (side : List Literal) (b : ℕ) → SumsBeside c side b 0 0
-sums_none c side b code exist = (λ l. refl, λ l. absurd (omega arith))
-
 pub sums_pass : (c : Choices) (side : List Literal) (b n s : ℕ) → n ≡ b → SumsBeside c side b n s → SumsBeside c side b (n + 1) s
 sums_pass c side b n s e h code exist = (
   λ l. absurd (omega arith),

@@ -4,7 +4,7 @@ use Rattle.std.specs.Prelude.{slice_get, take, All, ◌↔◌, Result, Ok, Err, 
 use Rattle.std.proofs.lemmas.List.Elements.{All-contains, All-nil}
 use Rattle.std.proofs.lemmas.Option.{same_Some, slice_get_within, get_or_from_slice_get}
 use Rattle.plan_rule.specs.Choices.{Choices, blocks}
-use Rattle.plan_rule.specs.Plans.{HasNoClash, IsAnswer, IsBest, IsFeasible, IsPlan, MeetsNone}
+use Rattle.plan_rule.specs.Plans.{IsBest, IsFeasible}
 use Rattle.plan_rule.specs.Pieces.{IsFirstMeeting}
 use Rattle.plan_rule.specs.Yards.{choices}
 use Rattle.shape_exact.specs.Yards.{PlainYard, IsYard}
@@ -107,16 +107,6 @@ verdict_decides c t log (verdict.Refused refused) h = (
     accepted-refused : (r : Refused) → verdict.Accepted ≡ verdict.Refused r → ⊥
     accepted-refused r e = subst is_accepted e (tt {0})
 
--- the fault of the first record that is no step is why a log is refused, where the plan may stand
-pub fault_refuses : (c : Choices) (t : Option (List ℕ)) (log : List Record) (refused : Refused) → IsAnswer c t → IsFirstFault c t log refused → IsRefusal c t log refused
-fault_refuses c t log (PlanNotFeasible a b) answer first = absurd first.here
-fault_refuses c t log (BadCite step cite) answer first = (answer, first)
-fault_refuses c t log (Uncovered step code) answer first = (answer, first)
-fault_refuses c t log (BoundLow step n) answer first = (answer, first)
-fault_refuses c t log NotEmpty answer first = absurd first.here
-fault_refuses c t log (PlanMeetsFixed b i) answer first = absurd first.here
-fault_refuses c t log (BadForm step) answer first = (answer, first)
-
 -- a call that answers the verdict answers Accepted exactly where the log is accepted
 pub answer_decides : (c : Choices) (t : Option (List ℕ)) (log : List Record) (o : Result Verdict NoMemory)
     → IfOk o (IsVerdict c t log) → IfOk o (λ v. (v ≡ verdict.Accepted) ↔ IsAccepted c t log)
@@ -128,7 +118,3 @@ pub answer_best : (yard : PlainYard) (t : Option (List ℕ)) (log : List Record)
     → IfOk o (IsVerdict (choices yard) t log) → IfOk o (λ v. v ≡ verdict.Accepted → IsBest (choices yard) t)
 answer_best yard t log (Ok v) is h = λ e. accepted_of_yard yard t log is ((verdict_decides (choices yard) t log v h).0 e)
 answer_best yard t log (Err e) is h = h
-
--- a plan without a clash that meets no piece may stand
-pub plan_stands : (yard : PlainYard) (p : List ℕ) → IsPlan (choices yard) p → HasNoClash (choices yard) p → MeetsNone (choices yard) p → IsFeasible (choices yard) p
-plan_stands yard p is clear unmet = record { is_plan = is; clear = clear; unmet = unmet }

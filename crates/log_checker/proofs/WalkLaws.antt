@@ -10,10 +10,10 @@ use Rattle.code_table.specs.declared.placement.Placement.{Placement}
 use Rattle.code_table.specs.declared.stretch.Stretch.{Stretch}
 use Rattle.code_table.specs.Placements.{placements, cost_at, cost_of, cost_on, own_cost}
 use Rattle.code_table.specs.Stretches.{IsStretch, nth_place}
-use Rattle.plan_rule.specs.Choices.{blocks, count}
+use Rattle.plan_rule.specs.Choices.{blocks}
 use Rattle.plan_rule.specs.Yards.{choices}
 use Rattle.plan_rule.proofs.ClashLaws.{element}
-use Rattle.plan_rule.proofs.CountLaws.{block_exists, count-length, cost_is}
+use Rattle.plan_rule.proofs.CountLaws.{cost_is}
 use Rattle.log_checker.specs.declared.cut.Cut.{Cut}
 use Rattle.log_checker.specs.declared.exact.Exact.{Exact}
 use Rattle.log_checker.specs.declared.span.Span.{Span}
@@ -32,10 +32,6 @@ passed_more spans n code next d within is passed k e low below = elim (cases_lt 
       ap (λ i. (get_or spans i e).hi) same ∙ ap (λ (s : Span). s.hi) (get_or_default spans n e d within) in
       omega arith
 ]
-
--- spans that end at a code or before it end so at a later one
-pub passed_on : (spans : List Span) (n code next : ℕ) → code ≤ next → ArePassed spans n code → ArePassed spans n next
-passed_on spans n code next le passed k e low below = let h = passed k e low below in omega arith
 
 -- the codes up to its end are in a span
 pub skipped_more : (spans : List Span) (Asked : ℕ → Type 0) (n code next : ℕ) (d : Span) → n < length spans → (get_or spans n d).lo ≤ code
@@ -132,11 +128,6 @@ not_settled yard b cut exacts spans code kept below takes left clear h = elim h 
     | inr inside ↦ left inside
   ]
 ]
-
--- the codes of a range exist
-pub code_below : (yard : PlainYard) (b hi code : ℕ) → b < blocks (choices yard) → hi ≤ count (choices yard) b → code < hi
-    → code < length (placements yard b)
-code_below yard b hi code exists range below = let n = count-length yard b (block_exists yard b exists) in omega arith
 
 -- a walk that goes on from where another one came to
 pub skipped_on : (yard : PlainYard) (exacts : List Exact) (spans : List Span) (b from code next : ℕ)

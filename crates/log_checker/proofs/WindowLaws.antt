@@ -1,11 +1,10 @@
 -- The figures of a yard's blocks, and the least raise block by block.
-use Rattle.std.proofs.Common.{◌≡◌, ℕ, ◌+◌, ◌-◌, ◌*◌, ◌<◌, ◌≤◌, max, min, List, length, Option, Some, None, refl, sym, ap, ◌∙◌, subst, inl, inr, arith, true, false, add-one}
+use Rattle.std.proofs.Common.{◌≡◌, ℕ, ◌+◌, ◌-◌, ◌*◌, ◌<◌, ◌≤◌, max, min, List, length, Option, Some, None, refl, sym, ap, ◌∙◌, subst, inl, inr, arith, true, false}
 use Rattle.std.specs.Prelude.{slice_get, is_none, is_some, nat_le, ◌&&◌, IfSome}
 use Rattle.std.specs.Option.{option_map_or}
 use Rattle.std.proofs.lemmas.Bool.{cases_lt, cond-true, true≢false}
 use Rattle.std.proofs.lemmas.Option.{same_Some}
-use Rattle.shape_exact.specs.Yards.{PlainYard, IsPiece}
-use Rattle.shape_exact.specs.declared.fixed.Fixed.{Fixed}
+use Rattle.shape_exact.specs.Yards.{PlainYard}
 use Rattle.shape_exact.specs.declared.block.Block.{Block}
 use Rattle.shape_exact.specs.declared.plate.Plate.{Plate}
 use Rattle.shape_exact.specs.Shapes.{cells}
@@ -19,7 +18,7 @@ use Rattle.plan_rule.specs.Choices.{Choices, IsCode, blocks, count}
 use Rattle.plan_rule.specs.Boxes.{HasExact, exact_code}
 use Rattle.plan_rule.specs.Fronts.{HasCodes}
 use Rattle.plan_rule.specs.Bounds.{IsLeastOf, IsBase, IsTight, IsRaise, IsEnergy, MayTake, presses}
-use Rattle.plan_rule.specs.Yards.{capacity, choices, plate_days, standing, stood_by, taken, taken_by}
+use Rattle.plan_rule.specs.Yards.{capacity, choices, plate_days, standing, taken, taken_by}
 use Rattle.plan_rule.proofs.YardLaws.{coded}
 use Rattle.log_checker.specs.Windows.{HasRoom, IsLeastRaiseBelow, IsRaiseIn, plate_room, stood_at, work_in}
 use Rattle.log_checker.proofs.FitLaws.{least_at}
@@ -59,10 +58,6 @@ taken_is yard first last b code block p plate at is on =
     ap (λ o. taken_by yard first last o (slice_get (placements yard b) code)) at
     ∙ ap (taken_by yard first last (Some block)) is
     ∙ ap (λ o. option_map_or (plate_days yard (max first p.start) (min last p.end)) o 0 * cells block.shape) on
-
--- one number more in a sum
-pub sum_next : (n sum more : ℕ) (f : ℕ → ℕ) → sum ≡ sum_below n f → more ≡ f n → sum + more ≡ sum_below (n + 1) f
-sum_next n sum more f e g = rw add-one (let h : sum + more ≡ sum_below n f + f n = omega arith in h)
 
 -- where a base is a number, each block has a code
 pub codes_of_base : (c : Choices) (side : List Literal) (k : ℕ) → IsBase c side (Some k) → HasCodes c
@@ -109,15 +104,6 @@ raise_more c side first last n (Some u) (Some v) h (press, raise) = (
       (λ less x p r. let a = h.1 b x less p r in omega arith)
       (λ x p r. let e = same_raise c last n v x raise r in omega arith) w,
 )
-
--- the energy of a window in which no block presses
-pub energy_unpressed : (c : Choices) (side : List Literal) (first last k : ℕ) → IsBase c side (Some k) → IsLeastRaiseBelow c side first last (blocks c) None
-    → IsEnergy c first last side (Some k)
-energy_unpressed c side first last k base none = (k, base, inl (inl none, refl))
-
--- of one with room for the work
-pub energy_roomy : (c : Choices) (side : List Literal) (first last k : ℕ) → IsBase c side (Some k) → HasRoom c side first last → IsEnergy c first last side (Some k)
-energy_roomy c side first last k base room = (k, base, inl (inr room, refl))
 
 tight : (c : Choices) (side : List Literal) (first last v : ℕ) → IsLeastRaiseBelow c side first last (blocks c) (Some v) → (HasRoom c side first last → ⊥) → IsTight c side first last
 tight c side first last v raise full = record {
@@ -194,21 +180,3 @@ none_of (Some d) p e f = absurd (true≢false f)
 pub standing_is : (yard : PlainYard) (first last n : ℕ) → n ≡ length yard.fixed → (choices yard).standing first last ≡ sum_below n (stood_at yard first last)
 unfolding choices standing
 standing_is yard first last n e = ap (λ n. sum_below n (stood_at yard first last)) (sym e)
-
--- what the pieces take with one more
-pub standing_next : (yard : PlainYard) (first last n sum more : ℕ) (f : Fixed) → sum ≡ sum_below n (stood_at yard first last) → slice_get yard.fixed n ≡ Some f
-    → more ≡ stood_by yard first last f → sum + more ≡ sum_below (n + 1) (stood_at yard first last)
-standing_next yard first last n sum more f e at is =
-    sum_next n sum more (stood_at yard first last) e (is ∙ ap (λ o. option_map_or (stood_by yard first last) o 0) (sym at))
-
--- what a piece takes, by its figures as they were read
-pub stood_of : (yard : PlainYard) (first last from to days area : ℕ) (f : Fixed) (opens : List ℕ) → IsPiece yard.days yard.plates f
-    → days ≡ open_between opens from to → from ≡ max first f.from → to ≡ min last f.to
-    → ((q : Plate) → slice_get yard.plates f.plate ≡ Some q → opens ≡ open_days yard.days q.closed)
-    → area ≡ cells f.shape → days * area ≡ stood_by yard first last f
-stood_of yard first last from to days area f opens is days_is from_is to_is opens_are area_is =
-    let d : days ≡ plate_days yard (max first f.from) (min last f.to) is.plate =
-    days_is ∙ ap (λ f. open_between opens f to) from_is ∙ ap (λ t. open_between opens (max first f.from) t) to_is
-    ∙ ap (λ o. open_between o (max first f.from) (min last f.to)) (opens_are is.plate is.plate_is) in
-    ap (λ d. d * area) d ∙ ap (λ a. plate_days yard (max first f.from) (min last f.to) is.plate * a) area_is
-    ∙ ap (λ o. option_map_or (plate_days yard (max first f.from) (min last f.to)) o 0 * cells f.shape) (sym is.plate_is)

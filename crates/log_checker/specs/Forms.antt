@@ -1,8 +1,7 @@
 -- What a record must be before it is judged: its blocks, codes and days exist, and its side is a box.
-use Rattle.std.specs.Prelude.{◌≡◌, ℕ, ◌<◌, ◌≤◌, List, [], All}
-use Rattle.plan_rule.specs.Choices.{Choices, blocks, count}
+use Rattle.std.specs.Prelude.{ℕ, ◌<◌, ◌≤◌, All}
+use Rattle.plan_rule.specs.Choices.{Choices, blocks}
 use Rattle.plan_rule.specs.Boxes.{IsBox, LeavesFree}
-use Rattle.plan_rule.specs.declared.literal.Literal.{Literal}
 use Rattle.refutation_log.specs.declared.record.Record.{Record}
 use Rattle.refutation_log.specs.declared.record.Record.TheVariants.{Branch, Fit, Energy}
 use Rattle.refutation_log.specs.Logs.{cites_of}
@@ -17,7 +16,3 @@ HasForm c (Energy from to side) = IsBox c side × (from ≤ to) × (to < c.days)
 -- a record with this many records before it cites only these
 abbrev pub CitesBelow : ℕ → Record → Type 0
 CitesBelow step r = All (λ k. k < step) (cites_of r)
-
--- a branch over all codes of its block, beside an empty side
-abbrev pub IsOverAll : Choices → ℕ → ℕ → ℕ → List Literal → Type 0
-IsOverAll c b lo hi side = (side ≡ []) × (lo ≡ 0) × (hi ≡ count c b)

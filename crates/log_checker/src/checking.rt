@@ -1,58 +1,28 @@
 //! The verdict on a log.
-ghost use Rattle.std.specs.Prelude.{◌≡◌, ◌<◌, ◌^◌, ◌↔◌, [], IsTrue, All, IfOk, IfSome, MatchOption, length, option_map};
-ghost use Rattle.plan_rule.specs.Choices.{blocks};
+ghost use Rattle.std.specs.Prelude.{◌≡◌, ◌<◌, ◌^◌, ◌↔◌, IsTrue, IfOk, IfSome, MatchOption, length, option_map};
 ghost use Rattle.plan_rule.specs.Plans.{IsAnswer, IsBest, IsPlan};
 ghost use Rattle.plan_rule.specs.Yards.{choices};
-ghost use Rattle.refutation_log.specs.Steps.{IsAccepted, result_of};
+ghost use Rattle.refutation_log.specs.Steps.{IsAccepted};
 ghost use Rattle.log_checker.specs.Claims.{plan_of};
-ghost use Rattle.log_checker.specs.Forms.{HasForm, IsOverAll};
 ghost use Rattle.log_checker.specs.Verdicts.{EndsEmpty, IsVerdict, RefusesAll};
 ghost use Rattle.log_checker.specs.declared.verdict.Verdict.TheVariants.{Accepted};
 
 use crate::claim::claim_of;
-use crate::form::count_of;
 use crate::judge::Judge;
 use crate::steps::first_fault;
 use crate::{Refused, Verdict};
 use code_table::Codes;
-use plan_rule::{Plan, PlanBox, first_clash, first_met};
+use plan_rule::{Plan, first_clash, first_met};
 use refutation_log::{Log, Record};
 use shape_exact::NoMemory;
 use std::alloc::Global;
 
-/// Whether a branch goes over all codes of its block beside an empty side.
-fn is_over_all(codes: &Codes, block: u8, lo: u32, hi: u32, side: &PlanBox) -> bool
-    requires { block < blocks (choices codes.now) }
-    ensures { IsTrue result ↔ IsOverAll (choices codes.now) block lo hi side.now }
-{
-    side.literals().is_empty() && lo == 0 && hi == count_of(codes, block)
-}
-
-/// Whether the record refutes every plan.
-fn refutes_all(codes: &Codes, entry: &Record) -> bool
-    requires { HasForm (choices codes.now) entry.now }
-    ensures { IsTrue result ↔ (result_of (choices codes.now) entry.now ≡ []) }
-{
-    match entry {
-        Record::Branch {
-            block,
-            lo,
-            hi,
-            side,
-            ..
-        } => is_over_all(codes, *block, *lo, *hi, side),
-        Record::Fit { side } => side.literals().is_empty(),
-        Record::Energy { side, .. } => side.literals().is_empty(),
-    }
-}
-
 /// Whether the last record refutes every plan.
 fn ends_empty(codes: &Codes, records: &[Record]) -> bool
-    requires { All (HasForm (choices codes.now)) records.now }
     ensures { IsTrue result ↔ EndsEmpty (choices codes.now) records.now }
 {
     match records.last() {
-        Some(last) => refutes_all(codes, last),
+        Some(last) => last.refutes_all(codes),
         None => false,
     }
 }

@@ -1,10 +1,10 @@
 //! With which codes of a block earlier records cover a side.
-ghost use Rattle.std.specs.Prelude.{◌≡◌, ◌≢◌, ◌<◌, ◌≤◌, ◌↔◌, ◌⊎◌, ℕ, All, IfOk, IsTrue, OnOk, length, slice_index_or};
+ghost use Rattle.std.specs.Prelude.{◌<◌, ◌≤◌, ◌↔◌, ◌⊎◌, ℕ, All, IfOk, IsTrue, OnOk, length, slice_index_or};
 ghost use Rattle.std.specs.List.{AllWithin};
 ghost use Rattle.std.specs.List.Sorted.{IsNonDecreasingBy, IsPermutation};
 ghost use Rattle.plan_rule.specs.declared.literal.Literal.{Literal};
 ghost use Rattle.plan_rule.specs.Choices.{IsCode, blocks};
-ghost use Rattle.plan_rule.specs.Boxes.{AreAmong, IsAscending, IsBox, LeavesFree, with_literal};
+ghost use Rattle.plan_rule.specs.Boxes.{AreAmong, IsAscending, LeavesFree, with_literal};
 ghost use Rattle.plan_rule.specs.Yards.{choices};
 ghost use Rattle.refutation_log.specs.Steps.{result_of};
 ghost use Rattle.log_checker.specs.Forms.{HasForm};
@@ -44,7 +44,7 @@ fn holds_at(codes: &Codes, l: Literal, others: &[Literal], at: usize) -> bool
     if at < others.len() && l.takes(others[at]) {
         return true;
     }
-    is_whole(codes, l)
+    l.is_whole(codes)
 }
 
 /// Whether the literal is whole or holds one of the side.

@@ -19,7 +19,7 @@ use crate::judge::Judge;
 use crate::mask::Masks;
 use crate::passed::Passed;
 use crate::refute::fault;
-use crate::rest::{exact_in, least_in};
+use crate::rest::least_in;
 use code_table::Codes;
 use plan_rule::{PlanBox, block_count};
 
@@ -53,7 +53,7 @@ fn least_fit(
     ensures kept { ArePassed codes.now passed.new }
     ensures among { All (Contains exacts.now) passed.new.exacts.items }
 {
-    match exact_in(side, block) {
+    match side.exact_code(block) {
         Some(code) => up_to(codes.own_cost(block, code), limit),
         None => least_free(codes, masks, passed, exacts, block, limit),
     }

@@ -1,7 +1,7 @@
 //! Whether a record names blocks, codes and days that exist, beside a side that is a box.
 ghost use Rattle.std.specs.Prelude.{◌≡◌, ◌<◌, ◌≤◌, ◌↔◌, IsTrue};
 ghost use Rattle.plan_rule.specs.Choices.{blocks, count};
-ghost use Rattle.plan_rule.specs.Boxes.{IsBox, IsLiteral, IsWhole, LeavesFree};
+ghost use Rattle.plan_rule.specs.Boxes.{IsBox, IsLiteral, LeavesFree};
 ghost use Rattle.plan_rule.specs.Yards.{choices};
 ghost use Rattle.refutation_log.specs.Steps.{IsRange};
 ghost use Rattle.log_checker.specs.Forms.{HasForm};
@@ -19,14 +19,6 @@ pub(crate) fn count_of(codes: &Codes, block: u8) -> u32
     codes.count(block)
 }
 
-/// Whether the literal has each code of its block.
-pub(crate) fn is_whole(codes: &Codes, l: Literal) -> bool
-    requires { l.block < blocks (choices codes.now) }
-    ensures { IsTrue result ↔ IsWhole (choices codes.now) l }
-{
-    l.lo == 0 && l.hi == count_of(codes, l.block)
-}
-
 /// Whether the literal has some codes of a block, and each of them only where there is one.
 fn is_literal(codes: &Codes, l: Literal) -> bool
     ensures { IsTrue result ↔ IsLiteral (choices codes.now) l }
@@ -35,7 +27,7 @@ fn is_literal(codes: &Codes, l: Literal) -> bool
         return false;
     }
     let count = count_of(codes, l.block);
-    if count != 1 && is_whole(codes, l) {
+    if count != 1 && l.is_whole(codes) {
         return false;
     }
     l.lo < l.hi && l.hi <= count

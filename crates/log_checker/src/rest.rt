@@ -1,33 +1,13 @@
 //! What the blocks other than one cost at least beside a side.
-ghost use Rattle.std.specs.Prelude.{◌≡◌, ◌+◌, ◌≤◌, ◌<◌, ◌==◌, if◌then◌else◌, IfSome};
+ghost use Rattle.std.specs.Prelude.{◌≡◌, ◌≤◌, ◌<◌, IfSome};
 ghost use Rattle.plan_rule.specs.Bounds.{IsLeastOf, MayTake};
-ghost use Rattle.plan_rule.specs.Boxes.{IsBox, exact_code};
+ghost use Rattle.plan_rule.specs.Boxes.{IsBox};
 ghost use Rattle.plan_rule.specs.Choices.{blocks};
 ghost use Rattle.plan_rule.specs.Yards.{choices};
 ghost use Rattle.log_checker.specs.Cuts.{IsRest};
 
 use code_table::Codes;
-use plan_rule::{Literal, PlanBox, block_count};
-
-/// The code of a literal that has one code alone. None where it has more.
-fn only_code(l: Literal) -> Option<u32>
-    requires { l.lo < l.hi }
-    ensures { result ≡ (if l.hi == l.lo + 1 then Some l.lo else None) }
-{
-    if l.hi - l.lo == 1 { Some(l.lo) } else { None }
-}
-
-/// The code to which the box fixes a block. None where it does not.
-pub(crate) fn exact_in(side: &PlanBox, block: u8) -> Option<u32>
-    ensures { result ≡ exact_code side.now block }
-{
-    for l in side.literals() {
-        if l.block == block {
-            return only_code(*l);
-        }
-    }
-    None
-}
+use plan_rule::{PlanBox, block_count};
 
 /// What a block costs at least in a box: the cost of the code to which the box fixes it, else the least of its codes.
 /// None where it has no code.
@@ -38,7 +18,7 @@ pub(crate) fn least_in(codes: &Codes, side: &PlanBox, block: u8) -> Option<u32>
     ensures least { IsLeastOf (MayTake (choices codes.now) side.now block) ((choices codes.now).cost block) result }
     ensures few { IfSome result (λ cost. cost ≤ 400000) }
 {
-    match exact_in(side, block) {
+    match side.exact_code(block) {
         Some(code) => Some(codes.own_cost(block, code)),
         None => codes.least_cost(block),
     }

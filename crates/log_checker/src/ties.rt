@@ -6,7 +6,6 @@ ghost use Rattle.plan_rule.specs.Plans.{IsPlan};
 ghost use Rattle.plan_rule.specs.Yards.{choices};
 ghost use Rattle.log_checker.specs.Ties.{IsAbove, IsBehindFrom, IsFirstApart, IsFirstTie};
 
-use crate::rest::exact_in;
 use code_table::Codes;
 use plan_rule::{Plan, PlanBox, block_count};
 
@@ -32,7 +31,7 @@ fn first_apart(codes: &Codes, plan: &Plan, side: &PlanBox, block: u8) -> u8
     let count = block_count(codes);
     let list = plan.codes();
     for other in 0..count {
-        if other != block && exact_in(side, other) != Some(list[usize::from(other)]) {
+        if other != block && side.exact_code(other) != Some(list[usize::from(other)]) {
             return other;
         }
     }

@@ -8,7 +8,6 @@ ghost use Rattle.plan_rule.specs.Yards.{choices, stood_by};
 ghost use Rattle.log_checker.specs.Windows.{HasRoom, plate_room, used_by, work_in};
 
 use crate::block::block_at;
-use crate::rest::exact_in;
 use code_table::Codes;
 use plan_rule::{PlanBox, block_count};
 use shape_exact::Fixed;
@@ -63,7 +62,7 @@ fn used_by(codes: &Codes, side: &PlanBox, window: Window, block: u8) -> u64
     ensures value { result ≡ used_by (choices codes.now) side.now window.from window.to block }
     ensures few { result < 2 ^ 48 }
 {
-    match exact_in(side, block) {
+    match side.exact_code(block) {
         Some(code) => taken(codes, window, block, code),
         None => 0,
     }
@@ -111,7 +110,7 @@ pub(crate) fn presses(codes: &Codes, side: &PlanBox, window: Window, block: u8) 
     requires { block < blocks (choices codes.now) }
     ensures { result ≡ presses (choices codes.now) side.now window.from window.to block }
 {
-    if exact_in(side, block).is_some() {
+    if side.exact_code(block).is_some() {
         return false;
     }
     let data = block_at(codes, block);

@@ -1,6 +1,5 @@
 -- The boxes of a job that is halved, and of its halves.
-use Rattle.std.proofs.Common.{◌≡◌, ◌≢◌, ℕ, zero, suc, ◌+◌, ◌-◌, ◌<◌, ◌≤◌, List, [], ◌∷◌, ◌++◌, length, drop, get_or, Bool, true, false, true≢false, Some, refl, sym, ap, ◌∙◌, subst, inl, inr, arith, append-nil, append_assoc, eq-eqb, ne_eqb}
-use Rattle.std.proofs.Math.Seq.{drop-cons}
+use Rattle.std.proofs.Common.{◌≡◌, ◌≢◌, ℕ, zero, suc, ◌+◌, ◌-◌, ◌<◌, ◌≤◌, List, [], ◌∷◌, ◌++◌, length, drop, get_or, Bool, true, false, true≢false, Some, refl, sym, ap, ◌∙◌, subst, inl, inr, arith, append-nil, eq-eqb, ne_eqb}
 use Rattle.std.specs.Prelude.{if◌then◌else◌, ◌==◌, ◌&&◌, slice_get, nat_lt}
 use Rattle.std.specs.List.{All, Contains, filter}
 use Rattle.std.proofs.lemmas.Bool.{lt-ltb, le-ltb}
@@ -266,17 +265,6 @@ pushed_none n xs l e = sym (ap (λ (b : Bool). xs ++ (if b then [] else l ∷ []
 
 pub pushed_one : (n : ℕ) (xs ys : List Literal) (l : Literal) → n ≢ 1 → ys ≡ xs ++ l ∷ [] → ys ≡ xs ++ (if n == 1 then [] else l ∷ [])
 pushed_one n xs ys l e is = is ∙ sym (ap (λ (b : Bool). xs ++ (if b then [] else l ∷ [])) (ne_eqb n 1 e))
-
--- the literals of one code more
-pub next_exacts : (c : Choices) (codes : List ℕ) (b code : ℕ) (xs ys all : List Literal) → b < length codes → get_or codes b 0 ≡ code → xs ++ exact_literals c b (drop b codes) ≡ all
-    → ys ≡ xs ++ (if count c b == 1 then [] else exact b code ∷ []) → ys ++ exact_literals c (b + 1) (drop (b + 1) codes) ≡ all
-next_exacts c codes b code xs ys all low at so_far more =
-    let next : suc b ≡ b + 1 = omega arith in
-    let cons : drop b codes ≡ code ∷ drop (suc b) codes = drop-cons codes b 0 low ∙ ap (λ x. x ∷ drop (suc b) codes) at in
-    subst (λ n. ys ++ exact_literals c n (drop n codes) ≡ all) next
-    (ap (λ l. l ++ exact_literals c (suc b) (drop (suc b) codes)) more
-    ∙ append_assoc xs (if count c b == 1 then [] else exact b code ∷ []) (exact_literals c (suc b) (drop (suc b) codes))
-    ∙ ap (λ l. xs ++ exact_literals c b l) (sym cons) ∙ so_far)
 
 pub all_exacts : (c : Choices) (codes : List ℕ) (xs all : List Literal) (b : ℕ) → length codes ≤ b → xs ++ exact_literals c b (drop b codes) ≡ all → xs ≡ all
 all_exacts c codes xs all b far is = sym (append-nil xs) ∙ ap (λ l. xs ++ exact_literals c b l) (sym (drop_all codes b far)) ∙ is

@@ -1,7 +1,7 @@
 -- The record that closes a log.
-use Rattle.std.proofs.Common.{◌≡◌, ℕ, zero, suc, ◌+◌, ◌<◌, ◌==◌, List, [], ◌∷◌, ◌++◌, length, Bool, true, false, true≢false, Option, Some, Result, Ok, Err, IfOk, refl, sym, ap, ap₂, ◌∙◌, subst, inl, inr, arith, length-append}
-use Rattle.std.specs.Prelude.{slice_get, ◌&&◌, if◌then◌else◌, ◌↔◌}
-use Rattle.std.proofs.lemmas.Bool.{cases_lt, eq-eqb, eqb-true}
+use Rattle.std.proofs.Common.{◌≡◌, ℕ, zero, suc, ◌+◌, ◌<◌, List, [], ◌∷◌, ◌++◌, length, Bool, Option, Some, Result, Ok, Err, IfOk, refl, sym, ap, ap₂, ◌∙◌, subst, inl, inr, arith, length-append}
+use Rattle.std.specs.Prelude.{slice_get, ◌&&◌, if◌then◌else◌}
+use Rattle.std.proofs.lemmas.Bool.{cases_lt, eq-eqb}
 use Rattle.std.proofs.lemmas.List.Elements.{All-nil, All-cons}
 use Rattle.std.proofs.lemmas.Option.{none-some}
 use Rattle.plan_rule.specs.Boxes.{IsBox, IsLiteral, with_literal, exact}
@@ -69,39 +69,6 @@ closed_accepted c t log log' k rec some_block h is grown answer steps =
     let at : slice_get (log ++ rec ∷ []) (length log) ≡ Some rec = subst (λ n. slice_get (log ++ rec ∷ []) n ≡ Some rec) (let e : length log + 0 ≡ length log = omega arith in e) (get_after log (rec ∷ []) 0 rec refl) in
     let long = length-append log (rec ∷ []) in
     subst (IsAccepted c t) (sym grown) (last_refutes c t (log ++ rec ∷ []) (length log) rec (omega arith) at (ap (result_of c) is ∙ closed_result c k) answer (pushed_steps c t log rec steps step))
-
-both_true : (a b : Bool) → (a && b) ≡ true → (a ≡ true) × (b ≡ true)
-both_true true true e = (refl, refl)
-both_true true false e = absurd (true≢false (sym e))
-both_true false b e = absurd (true≢false (sym e))
-
--- when the result of a branch is the empty box
-pub branch_empty : (c : Choices) (b lo hi : ℕ) (side : List Literal) (cites : List ℕ) → (side ≡ []) × (lo ≡ 0) × (hi ≡ count c b) → result_of c (Branch b lo hi side cites) ≡ []
-branch_empty c b lo hi side cites (none, low, high) =
-    ap (λ (w : Bool). if w then side else with_literal side (record { block = b; lo = lo; hi = hi })) (ap₂ ◌&&◌ (eq-eqb lo 0 low) (eq-eqb hi (count c b) high)) ∙ none
-
-pub empty_branch : (c : Choices) (b lo hi : ℕ) (side : List Literal) (cites : List ℕ) → result_of c (Branch b lo hi side cites) ≡ [] → (side ≡ []) × (lo ≡ 0) × (hi ≡ count c b)
-empty_branch c b lo hi side cites e = choose ((lo == 0) && (hi == count c b)) refl
-  where
-    some : (xs ys : List Literal) (l : Literal) → xs ++ l ∷ ys ≡ [] → ⊥
-    some [] ys l e = let n = ap length e in absurd (omega arith)
-    some (x ∷ xs) ys l e = let n = ap length e in absurd (omega arith)
-
-    choose : (w : Bool) → ((lo == 0) && (hi == count c b)) ≡ w → (side ≡ []) × (lo ≡ 0) × (hi ≡ count c b)
-    choose true is =
-        let (x, y) = both_true (lo == 0) (hi == count c b) is in
-        (sym (ap (λ (w : Bool). if w then side else with_literal side (record { block = b; lo = lo; hi = hi })) is) ∙ e, eqb-true lo 0 x, eqb-true hi (count c b) y)
-    choose false is =
-        absurd (some _ _ _ (sym (ap (λ (w : Bool). if w then side else with_literal side (record { block = b; lo = lo; hi = hi })) is) ∙ e))
-
-pub record_empty : (c : Choices) (r : Record) (b lo hi : ℕ) (side : List Literal) (cites : List ℕ) (answer : Bool) → r ≡ Branch b lo hi side cites
-    → (answer ≡ true ↔ ((side ≡ []) × (lo ≡ 0) × (hi ≡ count c b))) → (answer ≡ true ↔ (result_of c r ≡ []))
-record_empty c r b lo hi side cites answer is (to, from) = subst (λ r. answer ≡ true ↔ (result_of c r ≡ [])) (sym is)
-    (λ t. branch_empty c b lo hi side cites (to t), λ e. from (empty_branch c b lo hi side cites e))
-
-pub no_length : {X : Type 0} (xs : List X) → length xs ≡ 0 → xs ≡ []
-no_length [] e = refl
-no_length (x ∷ xs) e = absurd (omega arith)
 
 pub branch_is : (c : Choices) (n k : ℕ) (side : List Literal) (cites : List ℕ) → n ≡ count c 0 → side ≡ [] → cites ≡ k ∷ [] → Branch 0 0 n side cites ≡ Branch 0 0 (count c 0) [] (k ∷ [])
 branch_is c n k side cites a b d = λ i. Branch 0 0 (a i) (b i) (d i)

@@ -1,23 +1,20 @@
 -- Leaves that are put in order.
-use Rattle.std.proofs.Common.{◌≡◌, ℕ, zero, suc, ◌+◌, ◌^◌, ◌<◌, ◌≤◌, List, [], ◌∷◌, ◌++◌, length, map, drop, get_or, Option, Some, refl, sym, ap, ◌∙◌, subst, inl, inr, arith, length-append}
+use Rattle.std.proofs.Common.{◌≡◌, ℕ, ◌+◌, ◌^◌, ◌<◌, List, [], ◌∷◌, ◌++◌, length, map, get_or, Option, Some, refl, sym, ap, ◌∙◌, subst, inr, arith, length-append}
 use Rattle.std.specs.Prelude.{IsPermutation, slice_get}
-use Rattle.std.specs.List.{All, Contains, sum_by}
+use Rattle.std.specs.List.{All, sum_by}
 use Rattle.std.specs.List.Sorted.{IsNonDecreasingBy}
-use Rattle.std.proofs.lemmas.Bool.{cases_lt}
 use Rattle.std.proofs.lemmas.List.Elements.{All-nil, All-contains, All-contains_itself}
 use Rattle.std.proofs.lemmas.List.Sorted.{Contains-permutation, IsPermutation-sym, sum_by-IsPermutation}
 use Rattle.plan_rule.specs.declared.job.Job.{Job}
 use Rattle.plan_rule.specs.declared.literal.Literal.{Literal}
-use Rattle.plan_rule.specs.Boxes.{LeavesFree}
 use Rattle.plan_rule.specs.Choices.{Choices, blocks, count}
 use Rattle.plan_rule.specs.Fronts.{HasCodes}
 use Rattle.plan_rule.specs.Jobs.{IsJob}
-use Rattle.plan_rule.specs.Paths.{IsChain}
 use Rattle.plan_rule.specs.Plans.{IsAnswer}
 use Rattle.refutation_log.specs.declared.record.Record.{Record}
 use Rattle.refutation_log.specs.declared.record.Record.TheVariants.{Branch}
 use Rattle.refutation_log.specs.Logs.{AreSteps}
-use Rattle.refutation_log.specs.Steps.{result_of, IsStep, IsAccepted}
+use Rattle.refutation_log.specs.Steps.{IsStep, IsAccepted}
 use Rattle.std.proofs.lemmas.List.{get_or-map}
 use Rattle.std.proofs.lemmas.List.Sums.{sum_by-cons}
 use Rattle.refutation_log.proofs.AppendedLaws.{get_after, map_length, pushed_steps}
@@ -26,7 +23,8 @@ use Rattle.log_merge.specs.Leaves.{AreLeavesOf, job_of}
 use Rattle.log_merge.specs.Merging.{IsMergeable, IsRootOrHalf, RefutesJob}
 use Rattle.log_merge.specs.Tiles.{has, root, times}
 use Rattle.log_merge.proofs.Chains.{sorted_chain}
-use Rattle.log_merge.proofs.ClosingLaws.{branch_empty, empty_box, last_refutes}
+use Rattle.refutation_log.proofs.EmptyLaws.{branch_empty}
+use Rattle.log_merge.proofs.ClosingLaws.{empty_box, last_refutes}
 
 All-moved : {X : Type 0} (P : X → Type 0) (xs ys : List X) → IsPermutation xs ys → All P xs → All P ys
 All-moved P xs ys moved h k d l =

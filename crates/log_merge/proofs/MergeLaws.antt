@@ -63,11 +63,6 @@ in_middle job leaf a b l e = elim (cases_lt job.length leaf.length) [
 fits_of : (job : Job) → IsJob job → job.front + width job ≤ 2 ^ 32
 fits_of job is = room job.front job.length is.length is.bits is.low
 
-default : (xs : List Leaf) (k : ℕ) (d e : Leaf) → k < length xs → get_or xs k d ≡ get_or xs k e
-default [] k d e l = absurd (omega arith)
-default (x ∷ xs) zero d e l = refl
-default (x ∷ xs) (suc k) d e l = default xs k d e (omega arith)
-
 -- the first leaf of a job that is to be merged
 first_leaf : (c : Choices) (job : Job) (leaves : List Leaf) (at : ℕ) (log : List Record) (d : Leaf) → IsMergeable c job leaves at log
     → (at < length leaves) × ((get_or leaves at d).job.front ≡ job.front) × IsChain (job.front + width (get_or leaves at d).job) (map (λ (l : Leaf). l.job) (drop (at + 1) leaves)) (2 ^ 32)
@@ -97,9 +92,6 @@ at_leaf c job leaves at log d m l =
 -- the job is longer than its first leaf, so it is not the last to be halved
 pub longer : (c : Choices) (job : Job) (leaves : List Leaf) (at : ℕ) (log : List Record) (d : Leaf) → IsMergeable c job leaves at log → job.length < (get_or leaves at d).job.length → job.length < 32
 longer c job leaves at log d m l = let (i, front, chain, is_job, half) = first_leaf c job leaves at log d m in let s = is_job.length in omega arith
-
-pub middle_fits : (c : Choices) (job : Job) (leaves : List Leaf) (at : ℕ) (log : List Record) → IsMergeable c job leaves at log → job.length < 32 → job.front + 2 ^ (31 - job.length) < 2 ^ 32
-middle_fits c job leaves at log m l = let h = half_width job l in let f = fits_of job m.job_is in let p = pow_pos (31 - job.length) in omega arith
 
 half_is : (job : Job) → job.length < 32 → width (lower job) ≡ 2 ^ (31 - job.length)
 half_is job l = ap (λ n. 2 ^ n) (let e : 32 - (job.length + 1) ≡ 31 - job.length = omega arith in e)

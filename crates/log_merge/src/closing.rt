@@ -1,12 +1,12 @@
 //! The record that closes a log.
-ghost use Rattle.std.specs.Prelude.{◌≡◌, ◌↔◌, ◌<◌, ◌^◌, ℕ, [], List, Option, IsTrue, IfOk};
+ghost use Rattle.std.specs.Prelude.{◌≡◌, ◌<◌, ℕ, [], List, Option, IfOk};
 ghost use Rattle.plan_rule.specs.Choices.{blocks, count};
 ghost use Rattle.plan_rule.specs.Plans.{IsAnswer};
 ghost use Rattle.plan_rule.specs.Yards.{choices};
 ghost use Rattle.refutation_log.specs.Logs.{AreSteps};
-ghost use Rattle.refutation_log.specs.Steps.{IsAccepted, result_of};
+ghost use Rattle.refutation_log.specs.Steps.{IsAccepted};
 ghost use Rattle.plan_rule.specs.Fronts.{HasCodes};
-ghost use Rattle.log_merge.specs.Closing.{AllExist, CoversRoot, ExistsIn};
+ghost use Rattle.log_merge.specs.Closing.{AllExist, CoversRoot};
 ghost use Rattle.log_merge.specs.Merging.{IsMergeable};
 ghost use Rattle.log_merge.specs.Tiles.{root};
 
@@ -17,38 +17,6 @@ use refutation_log::{Cites, Log, Record};
 use shape_exact::NoMemory;
 use std::alloc::Global;
 
-/// Whether a range is all of the block's codes, and the side beside it is empty.
-fn is_whole(codes: &Codes, block: u8, lo: u32, hi: u32, side: &PlanBox) -> bool
-    requires { block < blocks (choices codes.now) }
-    ensures { IsTrue result ↔ ((side.now ≡ []) × (lo ≡ 0) × (hi ≡ count (choices codes.now) block)) }
-{
-    if !side.literals().is_empty() {
-        return false;
-    }
-    if lo != 0 {
-        return false;
-    }
-    hi == codes.count(block)
-}
-
-/// Whether the record refutes every plan: its result is the empty box.
-fn refutes_all(codes: &Codes, rec: &Record) -> bool
-    requires { ExistsIn (choices codes.now) rec.now }
-    ensures { IsTrue result ↔ (result_of (choices codes.now) rec.now ≡ []) }
-{
-    match rec {
-        Record::Branch {
-            block,
-            lo,
-            hi,
-            side,
-            ..
-        } => is_whole(codes, *block, *lo, *hi, side),
-        Record::Fit { side } => side.literals().is_empty(),
-        Record::Energy { side, .. } => side.literals().is_empty(),
-    }
-}
-
 /// Closes a log: where its last record does not refute every plan, one more does, over all codes of block 0. It cites the
 /// record of the root.
 pub fn close_log(alloc: Global, codes: &Codes, root: u64, log: &mut Log) -> Result<(), NoMemory>
@@ -57,7 +25,7 @@ pub fn close_log(alloc: Global, codes: &Codes, root: u64, log: &mut Log) -> Resu
 {
     codes.limits();
     let records = log.records();
-    if refutes_all(codes, &records[records.len() - 1]) {
+    if records[records.len() - 1].refutes_all(codes) {
         return Ok(());
     }
     let rec = Record::Branch {
@@ -81,7 +49,7 @@ pub fn close_empty(alloc: Global, codes: &Codes, block: u8, log: &mut Log) -> Re
         → AreSteps (choices codes.now) t log.old → IsAccepted (choices codes.now) t log.new) }
 {
     let records = log.records();
-    if !records.is_empty() && refutes_all(codes, &records[records.len() - 1]) {
+    if !records.is_empty() && records[records.len() - 1].refutes_all(codes) {
         return Ok(());
     }
     let rec = Record::Branch {

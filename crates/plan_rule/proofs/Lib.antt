@@ -10,6 +10,7 @@ pub mod OrderLaws
 pub mod SearchLaws
 pub mod CountLaws
 pub mod ClashLaws
+pub mod ExactLaws
 pub mod ExistLaws
 pub mod JobLaws
 pub mod BehindLaws

@@ -12,7 +12,7 @@ use Rattle.code_table.specs.declared.placement.Placement.{Placement}
 use Rattle.code_table.specs.Placements.{placements}
 use Rattle.plan_rule.specs.Clashes.{MeetPiece, MeetsPiece}
 use Rattle.plan_rule.specs.Choices.{Choices, MeetsSome, blocks}
-use Rattle.plan_rule.specs.Pieces.{IsFirstMet, IsFirstMeeting}
+use Rattle.plan_rule.specs.Pieces.{IsFirstMet}
 use Rattle.plan_rule.specs.Plans.{code_of, MeetsNone}
 use Rattle.plan_rule.specs.Yards.{choices}
 use Rattle.plan_rule.proofs.ClashLaws.{element}
@@ -72,15 +72,6 @@ meets_next c plan list n e below here a less m = elim (cases_lt a n) [
       let f : a ≡ n = omega arith in
       here (subst (λ p. MeetsSome c n (code_of p n)) (sym e) (subst (λ a. MeetsSome c a (code_of plan a)) f m))
 ]
-
--- the first block of a plan that meets a piece
-pub first_block : (c : Choices) (plan list : List ℕ) (b i : ℕ) → list ≡ plan → b < blocks c → IsFirstMet c b (code_of list b) i
-    → ((a : ℕ) → a < b → MeetsSome c a (code_of plan a) → ⊥) → IsFirstMeeting c plan b i
-first_block c plan list b i e l piece first = record {
-  block = l;
-  piece = subst (λ p. IsFirstMet c b (code_of p b) i) e piece;
-  first = first;
-}
 
 -- a plan of which no block meets a piece
 pub meets_none : (c : Choices) (plan : List ℕ) (n : ℕ) → blocks c ≤ n

@@ -1,6 +1,10 @@
 //! Literals: ranges of one block's codes.
 ghost use Rattle.std.specs.Prelude.{◌≡◌, ◌+◌, ◌^◌, ◌<◌, ◌≤◌, ◌↔◌, IsTrue};
-ghost use Rattle.plan_rule.specs.Boxes.{exact};
+ghost use Rattle.plan_rule.specs.Boxes.{IsWhole, exact};
+ghost use Rattle.plan_rule.specs.Yards.{choices};
+
+use crate::counts::count_of;
+use code_table::Codes;
 
 /// The codes of `block` from `lo` up to, and without, `hi`.
 #[derive(Clone, Copy, PartialEq, Eq, Debug)]
@@ -28,6 +32,13 @@ impl Literal {
         ensures { IsTrue result ↔ ((self.lo ≤ code) × (code < self.hi)) }
     {
         self.lo <= code && code < self.hi
+    }
+
+    /// Whether the range has each code of its block; a block past the last has none.
+    pub fn is_whole(self, codes: &Codes) -> bool
+        ensures { IsTrue result ↔ IsWhole (choices codes.now) self }
+    {
+        self.lo == 0 && self.hi == count_of(codes, usize::from(self.block))
     }
 
     /// Whether the literal has this block and this code alone.

@@ -1,12 +1,11 @@
 //! Boxes of plans.
 ghost use Rattle.std.specs.List.{AllWithin};
-ghost use Rattle.std.specs.Prelude.{◌≡◌, ◌≤◌, ◌<◌, ◌↔◌, ℕ, IsTrue, IfOk, length, slice_index_or};
+ghost use Rattle.std.specs.Prelude.{◌≡◌, ◌+◌, ◌≤◌, ◌<◌, ◌==◌, ◌↔◌, IsTrue, IfOk, if◌then◌else◌, length, slice_index_or};
 ghost use Rattle.plan_rule.specs.declared.literal.Literal.{Literal};
 ghost use Rattle.plan_rule.specs.Yards.{choices};
-ghost use Rattle.plan_rule.specs.Boxes.{AreAmong, AreLiterals, Covers, Holds, IsWhole};
+ghost use Rattle.plan_rule.specs.Boxes.{AreAmong, AreLiterals, Covers, Holds, exact_code};
 ghost use Rattle.plan_rule.specs.Bounds.{IsBehindOn};
 
-use crate::counts::count_of;
 use crate::{Literal, Plan};
 use code_table::Codes;
 use shape_exact::NoMemory;
@@ -58,6 +57,18 @@ impl PlanBox {
         self.list.as_slice()
     }
 
+    /// The code that the box sets the block to. None where it sets it to none.
+    pub fn exact_code(&self, block: u8) -> Option<u32>
+        ensures { result ≡ exact_code self.now block }
+    {
+        for l in self.literals() {
+            if l.block == block {
+                return only_code(*l);
+            }
+        }
+        None
+    }
+
     /// Whether the plan lies in the box: each literal's range has the plan's code of that block.
     pub fn holds(&self, plan: &Plan) -> bool
         requires { AreAmong (length plan.now) self.now }
@@ -79,7 +90,7 @@ impl PlanBox {
         let mut at = 0;
         for l in self.literals() {
             at = place_from(others, at, l.block);
-            if !is_whole(codes, *l) && !(at < others.len() && l.takes(others[at])) {
+            if !l.is_whole(codes) && !(at < others.len() && l.takes(others[at])) {
                 return false;
             }
         }
@@ -109,11 +120,12 @@ impl PlanBox {
     }
 }
 
-/// Whether the literal has each code of its block.
-fn is_whole(codes: &Codes, l: Literal) -> bool
-    ensures { IsTrue result ↔ IsWhole (choices codes.now) l }
+/// The code of a literal that has one code alone. None where it has more.
+fn only_code(l: Literal) -> Option<u32>
+    requires { l.lo < l.hi }
+    ensures { result ≡ (if l.hi == l.lo + 1 then Some l.lo else None) }
 {
-    l.lo == 0 && l.hi == count_of(codes, usize::from(l.block))
+    if l.hi - l.lo == 1 { Some(l.lo) } else { None }
 }
 
 /// The place of the first literal, from a place on, whose block is not below this one.

@@ -13,10 +13,6 @@ use Rattle.refutation_log.specs.declared.record.Record.TheVariants.{Branch, Fit,
 use Rattle.refutation_log.specs.Steps.{result_of, IsCited, IsStep, IsStepAt}
 use Rattle.refutation_log.specs.Logs.{raised, appended, AreSteps}
 
--- the record with this number shows the box to be refuted
-abbrev pub Shows : Choices → List Record → ℕ → List Literal → Type 0
-Shows c log k box = (r : Record) × (slice_get log k ≡ Some r) × Covers c (result_of c r) box
-
 pub map_length : {X Y : Type 0} (f : X → Y) (xs : List X) → length (map f xs) ≡ length xs
 map_length f [] = refl
 map_length f (x ∷ xs) = ap suc (map_length f xs)

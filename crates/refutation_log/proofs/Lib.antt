@@ -1,6 +1,7 @@
 pub mod AcceptedLaws
 pub mod AppendedLaws
 pub mod CiteLaws
+pub mod EmptyLaws
 pub mod ListLaws
 pub mod LiteralLaws
 pub mod LogLaws

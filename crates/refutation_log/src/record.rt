@@ -1,7 +1,12 @@
 //! Records of a log.
+ghost use Rattle.std.specs.Prelude.{◌≡◌, ◌↔◌, [], IsTrue};
+ghost use Rattle.plan_rule.specs.Boxes.{IsWhole};
+ghost use Rattle.plan_rule.specs.Yards.{choices};
+ghost use Rattle.refutation_log.specs.Steps.{result_of};
 
 use crate::Cites;
-use plan_rule::PlanBox;
+use code_table::Codes;
+use plan_rule::{Literal, PlanBox};
 
 /// Why no plan of a box is feasible and before the answer.
 ///
@@ -25,4 +30,37 @@ pub enum Record {
         to: u16,
         side: PlanBox,
     },
+}
+
+/// Whether a range is all codes of its block, and the side beside it is empty.
+fn is_over_all(codes: &Codes, range: Literal, side: &PlanBox) -> bool
+    ensures { IsTrue result ↔ ((side.now ≡ []) × IsWhole (choices codes.now) range) }
+{
+    side.literals().is_empty() && range.is_whole(codes)
+}
+
+impl Record {
+    /// Whether the record refutes every plan: the box that it refutes is the empty one.
+    pub fn refutes_all(&self, codes: &Codes) -> bool
+        ensures { IsTrue result ↔ (result_of (choices codes.now) self.now ≡ []) }
+    {
+        match self {
+            Record::Branch {
+                block,
+                lo,
+                hi,
+                side,
+                ..
+            } => {
+                let range = Literal {
+                    block: *block,
+                    lo: *lo,
+                    hi: *hi,
+                };
+                is_over_all(codes, range, side)
+            }
+            Record::Fit { side } => side.literals().is_empty(),
+            Record::Energy { side, .. } => side.literals().is_empty(),
+        }
+    }
 }

@@ -1,13 +1,9 @@
 -- The edges of a line walked the other way round.
-use Rattle.std.proofs.Common.{◌≡◌, arith, [], ◌∷◌}
+use Rattle.std.proofs.Common.{◌≡◌, arith}
 use Rattle.shape_exact.proofs.RingLaws.{ring, linear}
 use lib.IntN.{ℤ, ◌-ℤ◌, ◌*ℤ◌, neg_ℤ}
 use Rattle.shape_exact.specs.declared.point.Point.{Point}
-use Rattle.shape_exact.specs.Plane.{Edge}
 use Rattle.shape_exact.specs.Shapes.{cross}
-
-abbrev pub flip : Edge → Edge
-flip e = record { from = e.to; to = e.from }
 
 -- and each side changes its sign
 pub side_flip : (a b v : Point) → cross b a v ≡ neg_ℤ (cross a b v)

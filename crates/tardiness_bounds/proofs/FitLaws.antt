@@ -22,14 +22,11 @@ use Rattle.plan_rule.proofs.YardLaws.{coded}
 use Rattle.tardiness_bounds.specs.declared.slot.Slot.{Slot}
 use Rattle.tardiness_bounds.specs.declared.standing.Standing.{Standing}
 use Rattle.tardiness_bounds.specs.declared.witness.Witness.{Witness}
-use Rattle.tardiness_bounds.specs.declared.near.Neighbour.{Neighbour}
-use Rattle.tardiness_bounds.specs.Neighbours.{AreNear, IsClearOfNear}
 use Rattle.tardiness_bounds.specs.Tables.{PlainTables}
 use Rattle.tardiness_bounds.specs.Slots.{AreSlots, IsSlot, IsIn}
 use Rattle.tardiness_bounds.specs.Standings.{ClashesAt, IsClear, IsClearAt, IsStanding, MeetsAt, StandOnce, literals_of}
 use Rattle.tardiness_bounds.specs.Witnesses.{AreFull, HasNoPlace, IsWitness}
-use Rattle.tardiness_bounds.proofs.ClashLaws.{clear_near, near_clear}
-use Rattle.tardiness_bounds.proofs.ExactLaws.{nothing_exact}
+use Rattle.plan_rule.proofs.ExactLaws.{nothing_exact}
 use Rattle.tardiness_bounds.proofs.SpotLaws.{same_end}
 
 -- the code of an exact literal, and those after it

@@ -70,10 +70,6 @@ next_kept t list new b Never h ne apart = (
 pub next_full : (t : PlainTables) (list : List Standing) (new : Standing) (b : ℕ) (w : Witness) → IsLeftBefore t list new b (Free w) → AreFull t list b w.slot
 next_full t list new b w h = subst (λ l. AreFull t l b w.slot) (sym h.ends) (full_more t h.before new b w.slot h.left.1.before)
 
-pub next_free : (t : PlainTables) (list : List Standing) (new : Standing) (b : ℕ) (w : Witness) → IsLeftBefore t list new b (Free w) → b ≢ new.block
-    → LeavesFree (literals_of list) b
-next_free t list new b w h ne = subst (λ l. LeavesFree (literals_of l) b) (sym h.ends) (free_more h.before new b h.left.0 (λ e. ne (sym e)))
-
 only_one : {A : Type 0} (x y : A) (m : ℕ) → slice_get (x ∷ []) m ≡ Some y → (m ≡ 0) × (x ≡ y)
 only_one x y zero e = (refl, same_Some x y e)
 only_one x y (suc m) e = absurd (none-some y e)

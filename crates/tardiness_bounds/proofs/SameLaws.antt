@@ -13,7 +13,7 @@ use Rattle.tardiness_bounds.specs.Stacks.{CanPush, PlainFrontier}
 use Rattle.plan_rule.specs.Bounds.{IsBound, IsFit, IsLeastOf, IsSumOfLeast, MayFit}
 use Rattle.plan_rule.specs.Choices.{Choices, IsCode, blocks}
 use Rattle.plan_rule.proofs.ClashLaws.{element}
-use Rattle.tardiness_bounds.proofs.ExactLaws.{in_front, nothing_exact, passed}
+use Rattle.plan_rule.proofs.ExactLaws.{in_front, nothing_exact, passed}
 
 -- two boxes have the same exact codes
 abbrev pub HaveSameExacts : List Literal → List Literal → Type 0

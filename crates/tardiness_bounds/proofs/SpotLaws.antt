@@ -327,11 +327,6 @@ witness_at t list b i slots d p are l free full = record {
   before = full;
 }
 
--- each slot of the block is one
-pub slot_of : (yard : PlainYard) (b i : ℕ) (slots : List Slot) (d : Slot) → ((block : Block) → slice_get yard.blocks b ≡ Some block → AreSlots yard block slots)
-    → i < length slots → (block : Block) → slice_get yard.blocks b ≡ Some block → IsSlot yard block (get_or slots i d)
-slot_of yard b i slots d are l block at = (are block at).each i d l
-
 -- every placement is at or after the position 0, 0
 pub from_zero : (p : Placement) → IsFrom 0 0 p
 from_zero p = elim (cases_lt 0 p.y) [ inl l ↦ inl l | inr z ↦ inr (omega arith, omega arith) ]

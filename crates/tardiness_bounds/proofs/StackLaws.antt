@@ -4,9 +4,8 @@ use Rattle.std.specs.Prelude.{slice_get, All}
 use Rattle.std.proofs.Math.Nat.{mul-le-mul, mul-le-mul_right, suc-mul}
 use Rattle.std.proofs.lemmas.Bool.{cases_lt}
 use Rattle.std.proofs.lemmas.List.{get_or-map, take_more}
-use Rattle.std.proofs.lemmas.Option.{none-some, same_Some, slice_get_within, slice_get-get_or}
+use Rattle.std.proofs.lemmas.Option.{none-some, same_Some, slice_get_within}
 use Rattle.std.proofs.lemmas.List.Elements.{All-nil, All-push, All-head, All-tail, All-cons}
-use Rattle.shape_exact.specs.Yards.{IsYard}
 use Rattle.shape_exact.proofs.EachLaws.{get-append_cases}
 use Rattle.plan_rule.specs.declared.literal.Literal.{Literal}
 use Rattle.plan_rule.specs.Boxes.{LeavesFree, exact}
@@ -60,11 +59,6 @@ all_taken P (x ∷ xs) (suc n) h = All-cons P x (take n xs) (All-head P x xs h) 
 pub literals_push : (list : List Standing) (f : Standing) → literals_of (list ++ f ∷ []) ≡ literals_of list ++ exact f.block f.code ∷ []
 literals_push [] f = refl
 literals_push (g ∷ list) f = ap (λ ls. exact g.block g.code ∷ ls) (literals_push list f)
-
-pub literals_take : (list : List Standing) (n : ℕ) → literals_of (take n list) ≡ take n (literals_of list)
-literals_take list zero = refl
-literals_take [] (suc n) = refl
-literals_take (g ∷ list) (suc n) = ap (λ ls. exact g.block g.code ∷ ls) (literals_take list n)
 
 pub literals_length : (list : List Standing) → length (literals_of list) ≡ length list
 literals_length [] = refl
@@ -147,22 +141,6 @@ pushed_lefts t list more new lefts from capacity s is free e = record {
   ends = is;
   free = free;
   lefts_are = last_lefts t list lefts from capacity s e;
-}
-
--- a new stack
-pub stack_new : (t : PlainTables) (lefts : List Left) (capacity : ℕ) → IsYard t.yard → AreLefts t [] lefts 0 → length lefts ≡ length t.yard.blocks → 1056 ≤ capacity
-    → IsStack t [] lefts capacity
-stack_new t lefts capacity limits are long room = record {
-  limits = limits;
-  room = room;
-  len = (let m = one_more 0 (length t.yard.blocks) in omega arith);
-  few = omega arith;
-  standing = All-nil (IsStanding t.yard);
-  each = λ k l.
-      let e : 0 ≡ k = omega arith in
-      let begins : 0 ≡ 0 * length t.yard.blocks = omega arith in
-      subst (λ k. AreLefts t (take k []) lefts (k * length t.yard.blocks)) e (subst (AreLefts t [] lefts) begins are);
-  once = λ k f at. absurd (none-some f at);
 }
 
 -- a stack with one literal more

@@ -182,15 +182,6 @@ step_some yard list b most from c w new l standing h stand (next, at) (low, high
       };
     }
 
--- a stretch whose codes cost too much
-pub dear_stretch : (yard : PlainYard) (b most : ℕ) (s : Stretch) → IsStretch (placements yard b) s
-    → ((block : Block) → slice_get yard.blocks b ≡ Some block → most < cost_on block s.place.end) → AreDear yard b most s.lo s.hi
-dear_stretch yard b most s is dear x p block low high at block_is =
-    let same : p ≡ nth_place s x = same_Some p (nth_place s x) (sym at ∙ is.each x low high) in
-    let e : cost_at block p ≡ cost_on block s.place.end = ap (λ (p : Placement). cost_at block p) same in
-    let more = dear block block_is in
-    omega arith
-
 -- a start after which all codes cost too much
 pub dear_start : (yard : PlainYard) (b most : ℕ) (s : Stretch) (block : Block) → IsYard yard → slice_get yard.blocks b ≡ Some block → AreAscending (placements yard b)
     → IsStretch (placements yard b) s → s.lo < s.hi → most < block.weight * (s.place.start - block.due) → AreDear yard b most s.lo (length (placements yard b))
@@ -212,20 +203,6 @@ dear_start yard b most s block y block_is up is some dear x p other low high at 
     started : (p q : Placement) → ComesBefore p q → p.start ≤ q.start
     started p q (inl less) = omega arith
     started p q (inr (same, rest)) = omega arith
-
--- past codes that cost too much
-pub enter_past : (yard : PlainYard) (list : List Standing) (b most from lo : ℕ) (w : Walk) → from < w.from → w.from ≤ length (placements yard b)
-    → w.stand.stretch.hi ≤ w.from → lo ≤ from → AreDear yard b most lo w.from → IsPast yard list b most from w
-enter_past yard list b most from lo w onward within done low dear = record {
-  onward = onward;
-  within = within;
-  done = done;
-  none = λ x from_x below cheap.
-      let (p, at, open_p) = cheap in
-      let more = dear x p open_p.block (omega arith) below at open_p.block_is in
-      let less = open_p.cheap in
-      omega arith;
-}
 
 -- a code of the stretch by its row and its column
 pub spot_there : (yard : PlainYard) (list : List Standing) (b from columns : ℕ) (s : Stand) (stretch : Stretch) → IsStand yard list b s → s.stretch ≡ stretch
@@ -286,11 +263,6 @@ first_on yard list b most from mid w (Some c) told low none found =
       cheap,
       λ x from_x below is. elim (cases_lt x mid) [ inl less ↦ none x from_x less is | inr more ↦ before x more below is ],
     )
-
-pub found_walk : (yard : PlainYard) (list : List Standing) (b most mid : ℕ) (w : Walk) (o : Option ℕ) → is_some o ≡ true
-    → IfSome o (λ c. IsFound yard list b most mid c w) → IsWalk yard list b most w
-found_walk yard list b most mid w None told found = absurd (false≢true told)
-found_walk yard list b most mid w (Some c) told found = found.walk
 
 -- the walk goes on
 pub none_past : (yard : PlainYard) (list : List Standing) (b most mid : ℕ) (w : Walk) (o : Option ℕ) → is_some o ≡ false

@@ -5,7 +5,6 @@ ghost use Rattle.plan_rule.specs.Choices.{blocks};
 ghost use Rattle.plan_rule.specs.Yards.{choices};
 ghost use Rattle.tardiness_bounds.specs.Sides.{AreExactPlaces, IsExactPlace};
 
-use crate::rest::exact_in;
 use arrayvec::ArrayVec;
 use code_table::{Codes, Placement};
 use plan_rule::{PlanBox, block_count};
@@ -33,7 +32,7 @@ fn exact_place(codes: &Codes, part: &PlanBox, block: u8) -> Option<Placement>
     requires block { block < blocks (choices codes.now) }
     ensures { IsExactPlace codes.now part.now block result }
 {
-    match exact_in(part, block) {
+    match part.exact_code(block) {
         Some(code) => Some(codes.place(block, code)),
         None => None,
     }

@@ -1,6 +1,6 @@
 //! Boxes of exact literals and their bounds, where the conditions are tested first.
 ghost use Rattle.std.specs.Prelude.{◌≡◌, ◌<◌, ◌≤◌, ◌↔◌, IsTrue};
-ghost use Rattle.plan_rule.specs.Boxes.{IsBox, IsLiteral, IsWhole};
+ghost use Rattle.plan_rule.specs.Boxes.{IsBox, IsLiteral};
 ghost use Rattle.plan_rule.specs.Choices.{IsCode, blocks, count};
 ghost use Rattle.plan_rule.specs.Yards.{choices};
 
@@ -27,14 +27,6 @@ pub(crate) fn has_code(codes: &Codes, block: u8, code: u32) -> bool
     block < block_count(codes) && code < count_of(codes, block)
 }
 
-/// Whether the literal has each code of its block.
-fn is_whole(codes: &Codes, l: Literal) -> bool
-    requires { l.block < blocks (choices codes.now) }
-    ensures { IsTrue result ↔ IsWhole (choices codes.now) l }
-{
-    l.lo == 0 && l.hi == count_of(codes, l.block)
-}
-
 fn is_literal(codes: &Codes, l: Literal) -> bool
     ensures { IsTrue result ↔ IsLiteral (choices codes.now) l }
 {
@@ -42,7 +34,7 @@ fn is_literal(codes: &Codes, l: Literal) -> bool
         return false;
     }
     let count = count_of(codes, l.block);
-    if count != 1 && is_whole(codes, l) {
+    if count != 1 && l.is_whole(codes) {
         return false;
     }
     l.lo < l.hi && l.hi <= count

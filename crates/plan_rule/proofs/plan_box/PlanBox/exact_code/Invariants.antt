@@ -1,6 +1,6 @@
 use Rattle.std.specs.Prelude.{◌≢◌}
 use Rattle.std.specs.List.{AllWithin}
-use Rattle.tardiness_bounds.proofs.rest.exact_in.Given as goal
+use Rattle.plan_rule.proofs.plan_box.PlanBox.exact_code.Given as goal
 
 -- no literal so far is on the block
 abbrev pub invariant-loop-l : goal.invariant-loop-l
