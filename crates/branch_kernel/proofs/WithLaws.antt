@@ -7,7 +7,7 @@ use Rattle.std.proofs.lemmas.Bool.{cases_lt, cases_order, lt-ltb, ltb-true, eq-e
 use Rattle.std.proofs.lemmas.Option.{none-some, same_Some, slice_get_within, slice_get-get_or, get_or_from_slice_get}
 use Rattle.plan_rule.specs.declared.literal.Literal.{Literal}
 use Rattle.plan_rule.specs.declared.job.Job.{Job}
-use Rattle.shape_exact.specs.Each.{sum_below}
+use Rattle.common_lists.specs.Each.{sum_below}
 use Rattle.plan_rule.specs.Bounds.{IsBase, IsSumOfLeast, MayTake}
 use Rattle.plan_rule.proofs.BoundLaws.{exact-all}
 use Rattle.plan_rule.proofs.BoxLaws.{held_without}

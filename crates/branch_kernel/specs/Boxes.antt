@@ -1,6 +1,6 @@
 -- Boxes made of boxes, and what is exact in them.
 use Rattle.std.specs.Prelude.{◌≡◌, ◌≢◌, ℕ, ◌<◌, ◌⊎◌, Bool, List, Option, Some, None, All, Contains, filter, if◌then◌else◌, ◌==◌, ◌&&◌, not}
-use Rattle.shape_exact.specs.Each.{sum_below}
+use Rattle.common_lists.specs.Each.{sum_below}
 use Rattle.plan_rule.specs.declared.literal.Literal.{Literal}
 use Rattle.plan_rule.specs.Choices.{Choices, MeetsSome, blocks, count}
 use Rattle.plan_rule.specs.Plans.{code_of}

@@ -9,8 +9,8 @@ use Rattle.shape_exact.specs.Yards.{PlainYard, IsYard, IsBlock}
 use Rattle.shape_exact.specs.declared.block.Block.{Block}
 use Rattle.shape_exact.specs.declared.plate.Plate.{Plate}
 use Rattle.shape_exact.specs.Shapes.{turned, reach_x, reach_y}
-use Rattle.shape_exact.specs.Each.{each}
-use Rattle.shape_exact.proofs.EachLaws.{each-suc, get-append_cases}
+use Rattle.common_lists.specs.Each.{each}
+use Rattle.common_lists.proofs.EachLaws.{each-suc, get-append_cases}
 use Rattle.code_table.specs.declared.placement.Placement.{Placement}
 use Rattle.code_table.specs.Costs.{IsLeastCost, lesser, IsAtMostEachCost, IsCostOfSome}
 use Rattle.code_table.specs.Placements.{placed, placements, placements_of, cost_at, cost_of, cost_on, own_cost}

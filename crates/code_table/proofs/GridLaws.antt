@@ -2,9 +2,9 @@
 use Rattle.std.proofs.Common.{◌≡◌, ℕ, ◌+◌, ◌-◌, ◌*◌, ◌/◌, ◌%◌, ◌<◌, List, [], ◌∷◌, length, Some, refl, sym, ap, ◌∙◌, arith, cond, inl, inr}
 use Rattle.std.specs.Prelude.{slice_get}
 use Rattle.std.proofs.lemmas.Bool.{cases_lt, le-leb, lt-leb}
-use Rattle.shape_exact.specs.Each.{each, sum_below}
+use Rattle.common_lists.specs.Each.{each, sum_below}
 use Rattle.shape_exact.specs.declared.plate.Plate.{Plate}
-use Rattle.shape_exact.proofs.EachLaws.{each_agree, get-each, sum_below-const}
+use Rattle.common_lists.proofs.EachLaws.{each_agree, get-each, sum_below-const}
 use Rattle.code_table.specs.declared.placement.Placement.{Placement}
 use Rattle.code_table.specs.Placements.{each_step, row_of, grid_of}
 use Rattle.code_table.specs.Grids.{steps}

@@ -7,8 +7,8 @@ use Rattle.shape_exact.specs.declared.block.Block.{Block}
 use Rattle.shape_exact.specs.declared.plate.Plate.{Plate}
 use Rattle.shape_exact.specs.Shapes.{turned, reach_x, reach_y}
 use Rattle.plate_calendar.specs.Calendars.{open_days, end_of}
-use Rattle.shape_exact.specs.Each.{each, when, for_some}
-use Rattle.shape_exact.proofs.EachLaws.{from-each, from-when, from-some, from-one}
+use Rattle.common_lists.specs.Each.{each, when, for_some}
+use Rattle.common_lists.proofs.EachLaws.{from-each, from-when, from-some, from-one}
 use Rattle.code_table.specs.declared.placement.Placement.{Placement}
 use Rattle.code_table.specs.Placements.{placed, at_step, each_step, row_of, grid_of, placements_on, placements_of, IsPlacement}
 

@@ -11,7 +11,7 @@ use Rattle.shape_exact.specs.declared.plate.Plate.{Plate}
 use Rattle.shape_exact.specs.declared.point.Point.{Point}
 use Rattle.shape_exact.specs.Shapes.{turned, reach_x, reach_y}
 use Rattle.plate_calendar.specs.Calendars.{open_days, end_of}
-use Rattle.shape_exact.specs.Each.{when}
+use Rattle.common_lists.specs.Each.{when}
 use Rattle.code_table.specs.Placements.{placed}
 use Rattle.code_table.specs.Grids.{rows, columns}
 use Rattle.code_table.specs.Stands.{EndsOn, stand_at, nth_stand, stand_start, stand_plate, stand_turn}

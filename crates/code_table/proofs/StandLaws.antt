@@ -9,8 +9,8 @@ use Rattle.shape_exact.specs.declared.block.Block.{Block}
 use Rattle.shape_exact.specs.declared.plate.Plate.{Plate}
 use Rattle.shape_exact.specs.Shapes.{turned, reach_x, reach_y}
 use Rattle.plate_calendar.specs.Calendars.{open_days, end_of}
-use Rattle.shape_exact.specs.Each.{when, for_some}
-use Rattle.shape_exact.proofs.EachLaws.{length-each, get-each, sum-front_le}
+use Rattle.common_lists.specs.Each.{when, for_some}
+use Rattle.common_lists.proofs.EachLaws.{length-each, get-each, sum-front_le}
 use Rattle.code_table.specs.declared.placement.Placement.{Placement}
 use Rattle.code_table.specs.Placements.{placed, grid_of, placements_of, placements}
 use Rattle.code_table.specs.Stands.{sum_to, stand_at, nth_stand, stands}

@@ -4,8 +4,8 @@ use Rattle.std.specs.Prelude.{nat_le}
 use Rattle.std.proofs.lemmas.List.{append-nil}
 use Rattle.std.proofs.lemmas.Bool.{le-leb, lt-leb}
 use Rattle.std.proofs.lemmas.Nat.{div-add-mod', mod_below, mul-le}
-use Rattle.shape_exact.specs.Each.{each, when}
-use Rattle.shape_exact.proofs.EachLaws.{each-add, each_agree, each-nil, length-each, sum_below-const}
+use Rattle.common_lists.specs.Each.{each, when}
+use Rattle.common_lists.proofs.EachLaws.{each-add, each_agree, each-nil, length-each, sum_below-const}
 use Rattle.code_table.specs.Placements.{at_step, each_step}
 
 when_true : {A : Type 0} (b : Bool) (xs : List A) → b ≡ true → when b xs ≡ xs

@@ -3,10 +3,10 @@ use Rattle.std.proofs.Common.{◌≡◌, ℕ, zero, suc, ◌-◌, ◌≤◌, ◌
 use Rattle.std.specs.Prelude.{slice_get}
 use Rattle.std.proofs.lemmas.Option.{same_Some, none-some, slice_get_past}
 use Rattle.std.proofs.lemmas.Bool.{cases_lt}
-use Rattle.shape_exact.specs.Each.{for_some}
+use Rattle.common_lists.specs.Each.{for_some}
 use Rattle.shape_exact.specs.Yards.{PlainYard}
 use Rattle.shape_exact.specs.declared.block.Block.{Block}
-use Rattle.shape_exact.proofs.EachLaws.{get-append_cases}
+use Rattle.common_lists.proofs.EachLaws.{get-append_cases}
 use Rattle.code_table.specs.declared.table.Table.{Table}
 use Rattle.code_table.specs.Placements.{placements, placements_of}
 use Rattle.code_table.specs.Stands.{stands}

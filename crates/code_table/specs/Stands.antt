@@ -5,7 +5,7 @@ use Rattle.shape_exact.specs.declared.plate.Plate.{Plate}
 use Rattle.shape_exact.specs.declared.block.Block.{Block}
 use Rattle.shape_exact.specs.Shapes.{turned, reach_x, reach_y}
 use Rattle.plate_calendar.specs.Calendars.{open_days, end_of}
-use Rattle.shape_exact.specs.Each.{when, for_some, sum_below}
+use Rattle.common_lists.specs.Each.{when, for_some, sum_below}
 use Rattle.code_table.specs.declared.placement.Placement.{Placement}
 use Rattle.code_table.specs.Placements.{placed, grid_of}
 

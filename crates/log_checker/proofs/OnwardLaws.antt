@@ -4,7 +4,7 @@ use Rattle.std.specs.Prelude.{slice_get, nat_le, not, ◌&&◌}
 use Rattle.std.proofs.lemmas.Bool.{cases_lt, lt-leb, true≢false}
 use Rattle.std.proofs.lemmas.Nat.{mul-le}
 use Rattle.std.proofs.lemmas.Option.{same_Some}
-use Rattle.shape_exact.specs.Each.{sum_below}
+use Rattle.common_lists.specs.Each.{sum_below}
 use Rattle.shape_exact.specs.Days.{has_day}
 use Rattle.shape_exact.specs.Yards.{PlainYard, IsYard}
 use Rattle.shape_exact.specs.declared.block.Block.{Block}

@@ -9,7 +9,7 @@ use Rattle.std.proofs.lemmas.List.{get_or_past}
 use Rattle.plan_rule.specs.declared.literal.Literal.{Literal}
 use Rattle.plan_rule.specs.Choices.{Choices, blocks}
 use Rattle.plan_rule.specs.Plans.{code_of, IsPlan, IsFeasible, total, IsLexLess, IsAnswer, IsNotBefore}
-use Rattle.shape_exact.specs.Each.{sum_below}
+use Rattle.common_lists.specs.Each.{sum_below}
 use Rattle.plan_rule.specs.Boxes.{Holds, HasExact, exact_code, exact, IsBox, IsLiteral}
 use Rattle.plan_rule.specs.Bounds.{IsSumOfLeast, IsBound, MayTake, MayFit, IsBase, IsFit, IsBehind, Refutes, IsAtMost}
 

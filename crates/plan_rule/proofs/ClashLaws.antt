@@ -10,7 +10,7 @@ use Rattle.shape_exact.specs.declared.point.Point.{Point}
 use Rattle.code_table.specs.declared.placement.Placement.{Placement}
 use Rattle.code_table.specs.Placements.{placements, placements_of, IsPlacement}
 use Rattle.code_table.proofs.PlacedLaws.{placed-facts}
-use Rattle.shape_exact.specs.Each.{for_some}
+use Rattle.common_lists.specs.Each.{for_some}
 use Rattle.plan_rule.specs.Choices.{blocks}
 use Rattle.plan_rule.specs.Plans.{code_of, IsPlan, HasNoClash}
 use Rattle.plan_rule.specs.Pairs.{ClashesAfter}

@@ -5,7 +5,7 @@ use Rattle.shape_exact.specs.Yards.{PlainYard}
 use Rattle.code_table.specs.Placements.{placements, own_cost}
 use Rattle.plan_rule.specs.Choices.{Choices, blocks, count, IsCode}
 use Rattle.plan_rule.specs.Plans.{code_of, IsPlan}
-use Rattle.shape_exact.specs.Each.{sum_below}
+use Rattle.common_lists.specs.Each.{sum_below}
 use Rattle.plan_rule.specs.Yards.{choices}
 
 -- one choice for each block

@@ -3,9 +3,9 @@ use Rattle.std.proofs.Common.{◌≡◌, ℕ, ◌-◌, ◌*◌, ◌^◌, ◌<◌
 use Rattle.std.specs.Prelude.{slice_get}
 use Rattle.std.proofs.lemmas.Bool.{cases_lt}
 use Rattle.std.proofs.lemmas.Nat.{mul-le}
-use Rattle.shape_exact.specs.Each.{sum_below}
+use Rattle.common_lists.specs.Each.{sum_below}
 use Rattle.shape_exact.specs.Yards.{PlainYard, IsYard}
-use Rattle.shape_exact.proofs.EachLaws.{sum-le, sum_below-const}
+use Rattle.common_lists.proofs.EachLaws.{sum-le, sum_below-const}
 use Rattle.plate_calendar.proofs.DayLaws.{end_law}
 use Rattle.code_table.specs.Placements.{placements, own_cost, cost_of, cost_on}
 use Rattle.plan_rule.specs.Choices.{blocks, count}

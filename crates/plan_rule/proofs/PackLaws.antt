@@ -11,9 +11,9 @@ use Rattle.shape_exact.specs.declared.block.Block.{Block}
 use Rattle.shape_exact.specs.declared.plate.Plate.{Plate}
 use Rattle.shape_exact.specs.Shapes.{is_inside, centre, turned, cells, reach_x, reach_y}
 use Rattle.shape_exact.specs.Days.{has_day}
-use Rattle.shape_exact.specs.Each.{sum_below}
+use Rattle.common_lists.specs.Each.{sum_below}
 use Rattle.shape_exact.proofs.CellLaws.{cells-shift}
-use Rattle.shape_exact.proofs.EachLaws.{sum-agree, sum-times, sum-swap, sum-le, sum-at_most_one, sum_below-le, sum_below-const, sum-add_range}
+use Rattle.common_lists.proofs.EachLaws.{sum-agree, sum-times, sum-swap, sum-le, sum-at_most_one, sum_below-le, sum_below-const, sum-add_range}
 use Rattle.plate_calendar.proofs.DayLaws.{one_if, count-sum}
 use Rattle.code_table.specs.declared.placement.Placement.{Placement}
 use Rattle.code_table.specs.Placements.{placements, IsPlacement}

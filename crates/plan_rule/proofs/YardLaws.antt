@@ -12,8 +12,8 @@ use Rattle.shape_exact.specs.declared.block.Block.{Block}
 use Rattle.shape_exact.specs.Shapes.{cells}
 use Rattle.shape_exact.proofs.TurnLaws.{turns_keep}
 use Rattle.shape_exact.proofs.FormLaws.{normal}
-use Rattle.shape_exact.specs.Each.{sum_below, for_some}
-use Rattle.shape_exact.proofs.EachLaws.{sum-swap, sum-le, sum-add}
+use Rattle.common_lists.specs.Each.{sum_below, for_some}
+use Rattle.common_lists.proofs.EachLaws.{sum-swap, sum-le, sum-add}
 use Rattle.plate_calendar.proofs.DayLaws.{end_law}
 use Rattle.code_table.specs.declared.placement.Placement.{Placement}
 use Rattle.code_table.specs.Placements.{placements, placements_of, own_cost, cost_of, cost_on, IsPlacement}

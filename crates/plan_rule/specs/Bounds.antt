@@ -1,6 +1,6 @@
 -- Bounds of a box, and when one refutes it.
 use Rattle.std.specs.Option.{option_map_or}
-use Rattle.shape_exact.specs.Each.{sum_below}
+use Rattle.common_lists.specs.Each.{sum_below}
 use Rattle.std.specs.Prelude.{◌-◌, ◌*◌, Bool, true, false, ◌&&◌, nat_le, is_none, if◌then◌else◌, ◌≡◌, ℕ, zero, suc, ◌+◌, ◌<◌, ◌≤◌, List, Option, Some, None, ◌⊎◌, Any}
 use Rattle.plan_rule.specs.declared.literal.Literal.{Literal}
 use Rattle.plan_rule.specs.Choices.{Choices, MeetsSome, blocks, count}

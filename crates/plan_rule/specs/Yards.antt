@@ -8,7 +8,7 @@ use Rattle.shape_exact.specs.declared.plate.Plate.{Plate}
 use Rattle.shape_exact.specs.declared.fixed.Fixed.{Fixed}
 use Rattle.shape_exact.specs.Shapes.{cells}
 use Rattle.plate_calendar.specs.Calendars.{open_days, open_between}
-use Rattle.shape_exact.specs.Each.{sum_below}
+use Rattle.common_lists.specs.Each.{sum_below}
 use Rattle.code_table.specs.declared.placement.Placement.{Placement}
 use Rattle.code_table.specs.Placements.{placements, own_cost}
 use Rattle.plan_rule.specs.Choices.{Choices}

@@ -5,8 +5,8 @@ use Rattle.std.specs.Fmt.{decimal}
 use Rattle.std.specs.Option.{option_map_or}
 use Rattle.std.proofs.lemmas.Option.{slice_get-get_or}
 use Rattle.shape_exact.specs.Yards.{PlainYard}
-use Rattle.shape_exact.specs.Each.{each}
-use Rattle.shape_exact.proofs.EachLaws.{each-suc}
+use Rattle.common_lists.specs.Each.{each}
+use Rattle.common_lists.proofs.EachLaws.{each-suc}
 use Rattle.shape_exact.specs.declared.block.Block.{Block}
 use Rattle.shape_exact.specs.declared.plate.Plate.{Plate}
 use Rattle.code_table.specs.declared.placement.Placement.{Placement}

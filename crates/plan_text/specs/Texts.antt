@@ -4,7 +4,7 @@ use Rattle.std.specs.List.{join_with_byte, list_any}
 use Rattle.std.specs.Option.{option_map_or}
 use Rattle.std.specs.Fmt.{decimal}
 use Rattle.shape_exact.specs.Yards.{PlainYard}
-use Rattle.shape_exact.specs.Each.{each}
+use Rattle.common_lists.specs.Each.{each}
 use Rattle.shape_exact.specs.declared.block.Block.{Block}
 use Rattle.code_table.specs.declared.placement.Placement.{Placement}
 use Rattle.code_table.specs.Placements.{placements}

@@ -6,8 +6,8 @@ use Rattle.std.proofs.lemmas.Bool.Decides.{nat_tests}
 use Rattle.std.proofs.lemmas.List.Sums.{sum_by-cons}
 use Rattle.std.proofs.lemmas.List.{append-nil}
 use Rattle.shape_exact.specs.Days.{has_day, are_days}
-use Rattle.shape_exact.specs.Each.{when}
-use Rattle.shape_exact.proofs.EachLaws.{each-suc}
+use Rattle.common_lists.specs.Each.{when}
+use Rattle.common_lists.proofs.EachLaws.{each-suc}
 use Rattle.plate_calendar.specs.Counts.{count_below}
 use Rattle.plate_calendar.proofs.DayLaws.{picked, one_if}
 

@@ -5,10 +5,10 @@ use Rattle.std.proofs.lemmas.List.Elements.{filter-append}
 use Rattle.std.proofs.lemmas.List.Sums.{sum_by-append, length-filter}
 use Rattle.std.proofs.lemmas.Bool.{leb-true, le-leb, lt-leb, and_from}
 use Rattle.std.proofs.lemmas.Option.{none-some, same_Some}
-use Rattle.shape_exact.specs.Each.{each, when, sum_below}
+use Rattle.common_lists.specs.Each.{each, when, sum_below}
 use Rattle.shape_exact.specs.Days.{has_day}
 use Rattle.plate_calendar.specs.Calendars.{open_days, end_of, open_between}
-use Rattle.shape_exact.proofs.EachLaws.{each-suc, get-append_cases, sum-agree}
+use Rattle.common_lists.proofs.EachLaws.{each-suc, get-append_cases, sum-agree}
 
 -- the days of a list that has each number below n once at most, where a test holds
 abbrev pub picked : (ℕ → Bool) → ℕ → List ℕ

@@ -6,8 +6,8 @@ use Rattle.std.proofs.lemmas.List.{take_all}
 use Rattle.std.proofs.lemmas.List.Folds.{list_any_more}
 use Rattle.std.proofs.lemmas.Option.{none-some, same_Some, slice_get-get_or, slice_get_within}
 use Rattle.shape_exact.specs.Days.{has_day, are_days}
-use Rattle.shape_exact.specs.Each.{each, when}
-use Rattle.shape_exact.proofs.EachLaws.{each_agree}
+use Rattle.common_lists.specs.Each.{each, when}
+use Rattle.common_lists.proofs.EachLaws.{each_agree}
 use Rattle.plate_calendar.specs.Calendars.{open_days}
 use Rattle.plate_calendar.specs.Faults.{IsGoodEntry, IsFirstFault}
 use Rattle.plate_calendar.specs.declared.day_fault.DayFault.{DayFault}

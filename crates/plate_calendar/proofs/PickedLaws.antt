@@ -5,8 +5,8 @@ use Rattle.std.proofs.lemmas.Bool.{lt-ltb, le-ltb, and_left}
 use Rattle.std.proofs.lemmas.List.Sums.{sum_by-append}
 use Rattle.std.proofs.lemmas.List.{append-nil}
 use Rattle.shape_exact.specs.Days.{are_days}
-use Rattle.shape_exact.specs.Each.{when}
-use Rattle.shape_exact.proofs.EachLaws.{each-suc, each_agree}
+use Rattle.common_lists.specs.Each.{when}
+use Rattle.common_lists.proofs.EachLaws.{each-suc, each_agree}
 use Rattle.plate_calendar.specs.Counts.{count_below, IsCounted}
 use Rattle.plate_calendar.proofs.DayLaws.{picked, one_if}
 use Rattle.plate_calendar.proofs.CountLaws.{picked-are_days, are_days-higher, count_below-past, count_below-cons}

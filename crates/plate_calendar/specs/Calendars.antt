@@ -1,7 +1,7 @@
 -- Open days, and the day on which work ends.
 use Rattle.std.specs.Prelude.{ℕ, ◌-◌, List, [], ◌∷◌, Option, None, not, filter, nat_le, slice_get, count_by, ◌&&◌, if◌then◌else◌}
 use Rattle.shape_exact.specs.Days.{has_day}
-use Rattle.shape_exact.specs.Each.{each, when}
+use Rattle.common_lists.specs.Each.{each, when}
 
 -- the days below a number that are not closed, ascending
 abbrev pub open_days : ℕ → List ℕ → List ℕ

@@ -1,7 +1,7 @@
 //! Calendars.
 ghost use Rattle.std.specs.Prelude.{◌≡◌, ℕ, ◌^◌, ◌≤◌, ◌<◌, true, false, [], ◌∷◌, length, not, slice_index_or, IfOk, OnOk, IfErr};
 ghost use Rattle.shape_exact.specs.Days.{has_day, are_days};
-ghost use Rattle.shape_exact.specs.Each.{each, when};
+ghost use Rattle.common_lists.specs.Each.{each, when};
 ghost use Rattle.plate_calendar.specs.Calendars.{open_days, end_of, open_between};
 ghost use Rattle.plate_calendar.specs.Counts.{count_below};
 ghost use Rattle.plate_calendar.specs.Faults.{IsGoodEntry, IsFirstFault};

@@ -1,7 +1,7 @@
 -- Adding up the placements of one block after the other.
 use Rattle.std.proofs.Common.{◌≡◌, ℕ, suc, ◌+◌, ◌<◌, length, subst, arith}
 use Rattle.shape_exact.specs.Yards.{PlainYard}
-use Rattle.shape_exact.specs.Each.{sum_below}
+use Rattle.common_lists.specs.Each.{sum_below}
 use Rattle.code_table.specs.Placements.{placements}
 use Rattle.plan_rule.specs.Choices.{blocks, count}
 use Rattle.plan_rule.specs.Yards.{choices}

@@ -2,7 +2,7 @@
 use Rattle.std.specs.Prelude.{◌≡◌, ℕ, List, ◌++◌, Option, Some, None, codes}
 use Rattle.std.specs.Fmt.{decimal}
 use Rattle.shape_exact.specs.Yards.{PlainYard}
-use Rattle.shape_exact.specs.Each.{sum_below}
+use Rattle.common_lists.specs.Each.{sum_below}
 use Rattle.yard_generator.specs.Yards.{drawn_yard}
 use Rattle.plan_rule.specs.Choices.{blocks, count}
 use Rattle.plan_rule.specs.Plans.{IsBest, total}

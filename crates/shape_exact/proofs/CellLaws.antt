@@ -4,9 +4,9 @@ use Rattle.std.specs.Prelude.{ℤ, pos, ◌+ℤ◌, ◌-ℤ◌, ◌*ℤ◌, int_
 use Rattle.std.specs.List.{list_all}
 use Rattle.std.proofs.lemmas.Int.{ints}
 use Rattle.shape_exact.specs.declared.point.Point.{Point}
-use Rattle.shape_exact.specs.Each.{sum_below}
+use Rattle.common_lists.specs.Each.{sum_below}
 use Rattle.shape_exact.specs.Shapes.{edges, side_of, is_inside, reach_x, reach_y, centre, origin, cells}
-use Rattle.shape_exact.proofs.EachLaws.{sum-le, sum-shift_le}
+use Rattle.common_lists.proofs.EachLaws.{sum-le, sum-shift_le}
 
 pub list_all-agree : {A : Type 0} (p r : A → Bool) (xs : List A) → ((x : A) → p x ≡ r x) → list_all p xs ≡ list_all r xs
 list_all-agree p r [] h = refl

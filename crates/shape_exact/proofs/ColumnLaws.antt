@@ -6,11 +6,11 @@ use Rattle.std.proofs.lemmas.Int.{ints, unsigned_abs-mul}
 use Rattle.std.proofs.Math.Nat.{mul-le-mul}
 use Rattle.shape_exact.specs.declared.point.Point.{Point}
 use Rattle.shape_exact.specs.declared.cells.Interval.{Interval}
-use Rattle.shape_exact.specs.Each.{sum_below}
+use Rattle.common_lists.specs.Each.{sum_below}
 use Rattle.shape_exact.specs.Shapes.{side_of, is_inside, origin, centre, cells, reach_x, reach_y}
 use Rattle.shape_exact.specs.Cells.{Holds, centre_of}
 use Rattle.shape_exact.proofs.RingLaws.{ring, linear}
-use Rattle.shape_exact.proofs.EachLaws.{sum-add_range, sum_below-const}
+use Rattle.common_lists.proofs.EachLaws.{sum-add_range, sum_below-const}
 use Rattle.shape_exact.proofs.ApartLaws.{above_from, above_to, both_true}
 use lib.IntN.{ℤ, pos, negsuc, ◌+ℤ◌, ◌-ℤ◌, ◌*ℤ◌}
 use lib.Signed.{◌<ℤ◌, ◌≤ℤ◌}

@@ -12,8 +12,10 @@ use Rattle.std.proofs.lemmas.List.Elements.{All-from_get_or}
 use Rattle.shape_exact.specs.declared.point.Point.{Point}
 use Rattle.shape_exact.specs.declared.shape.ShapeFault.TheVariants.{TooFew, TooMany, Range, Equal, NotConvex, Flat}
 use Rattle.shape_exact.specs.Shapes.{IsShape, shifted, origin}
-use Rattle.shape_exact.specs.Reading.{where_so, vertex, cross_at, is_near, is_same, first_far, first_equal, first_equal_to, sign, sign_of_edge, inner_sign, is_other, other_of_edge, first_other, leftwards, shape_of}
-use Rattle.shape_exact.proofs.ReadLaws.{none_at, some_at, far_at, equal_at, pair_at, sign_at, other_at, sides_at, near_within}
+use Rattle.common_lists.specs.Firsts.{where_so}
+use Rattle.shape_exact.specs.Reading.{vertex, cross_at, is_near, is_same, first_far, first_equal, first_equal_to, sign, sign_of_edge, inner_sign, is_other, other_of_edge, first_other, leftwards, shape_of}
+use Rattle.common_lists.proofs.FirstLaws.{none_at, some_at}
+use Rattle.shape_exact.proofs.ReadLaws.{far_at, equal_at, pair_at, sign_at, other_at, sides_at, near_within}
 use Rattle.shape_exact.specs.Separation.{IsWithin}
 use Rattle.shape_exact.proofs.OutlineLaws.{IsOutline, outline-backwards, shape-shifted}
 

@@ -1,5 +1,4 @@
 pub mod DayLaws
-pub mod EachLaws
 pub mod CellLaws
 pub mod TurnLaws
 pub mod FormLaws

@@ -4,10 +4,10 @@ use Rattle.std.specs.List.{All}
 use Rattle.std.proofs.lemmas.Int.{ints, fold-int_max_bounds}
 use Rattle.std.proofs.lemmas.List.Elements.{All-nil, All-cons, All-head, All-tail}
 use Rattle.shape_exact.specs.declared.point.Point.{Point}
-use Rattle.shape_exact.specs.Each.{sum_below}
+use Rattle.common_lists.specs.Each.{sum_below}
 use Rattle.shape_exact.specs.Shapes.{IsShape, is_inside, origin, centre, cells, greatest, reach_x, reach_y}
 use Rattle.shape_exact.specs.Cells.{cells_on}
-use Rattle.shape_exact.proofs.EachLaws.{sum-add_range, sum_below-const, sum-agree}
+use Rattle.common_lists.proofs.EachLaws.{sum-add_range, sum_below-const, sum-agree}
 use Rattle.shape_exact.proofs.CellLaws.{inside-shift}
 use Rattle.shape_exact.proofs.TurnLaws.{high_x, high_y}
 use Rattle.shape_exact.proofs.FormLaws.{not_left, not_under, normal}

@@ -7,9 +7,9 @@ use Rattle.std.proofs.lemmas.Int.{ints, clamps, fold-int_min_bounds, fold-int_ma
 use Rattle.std.proofs.Math.IntN.{zero-*ℤ, negsuc-*ℤ-pos, pos-*ℤ-pos, negsuc-*ℤ-negsuc, pos-*ℤ-negsuc, neg_ℤ-neg_ℤ, *ℤ_comm}
 use Rattle.std.proofs.lemmas.List.{map-append}
 use Rattle.shape_exact.specs.declared.point.Point.{Point}
-use Rattle.shape_exact.specs.Each.{sum_below}
+use Rattle.common_lists.specs.Each.{sum_below}
 use Rattle.shape_exact.specs.Shapes.{edges, side_of, is_inside, least, greatest, shifted, turned, reach_x, reach_y, centre, origin, cells}
-use Rattle.shape_exact.proofs.EachLaws.{sum-swap, sum-agree}
+use Rattle.common_lists.proofs.EachLaws.{sum-swap, sum-agree}
 use Rattle.shape_exact.proofs.CellLaws.{list_all-agree}
 
 -- a shape whose least x and least y are 0

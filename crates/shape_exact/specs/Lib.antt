@@ -1,4 +1,3 @@
-pub mod Each
 pub mod Names
 pub mod Days
 pub mod Shapes

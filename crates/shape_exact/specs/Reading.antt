@@ -2,20 +2,11 @@
 use Rattle.std.specs.Prelude.{ℕ, zero, suc, Bool, true, false, ◌&&◌, nat_lt, nat_le, ℤ, pos, negsuc, int_lt, unsigned_abs, Option, Some, None, Result, Ok, Err, List, [], ◌∷◌, length, reverse, slice_index_or, if◌then◌else◌}
 use Rattle.std.specs.Option.{option_or, option_map}
 use Rattle.std.specs.Ordering.{int_eq}
+use Rattle.common_lists.specs.Firsts.{first_below, where_so}
 use Rattle.shape_exact.specs.declared.point.Point.{Point}
 use Rattle.shape_exact.specs.declared.shape.ShapeFault.{ShapeFault}
 use Rattle.shape_exact.specs.declared.shape.ShapeFault.TheVariants.{TooFew, TooMany, Range, Equal, NotConvex, Flat}
 use Rattle.shape_exact.specs.Shapes.{edges, cross, origin, shifted}
-
--- the first of f 0, f 1, .., f (n - 1) that there is
-abbrev pub first_below : {A : Type 0} → ℕ → (ℕ → Option A) → Option A
-first_below zero f = None
-first_below (suc n) f = option_or (first_below n f) (f n)
-
--- the value, where the test holds
-abbrev pub where_so : {A : Type 0} → Bool → A → Option A
-where_so true x = Some x
-where_so false x = None
 
 -- vertex number i
 abbrev pub vertex : List Point → ℕ → Point

@@ -3,7 +3,7 @@
 //! In a row of cells each edge bounds the columns from one side, and one whole division tells where.
 ghost use Rattle.std.specs.Prelude.{◌≡◌, ◌≤◌, ◌<◌, ◌↔◌, ℤ, pos, ◌+ℤ◌, ◌-ℤ◌, ◌*ℤ◌, ◌≤ℤ◌, ◌<ℤ◌, true, unsigned_abs, if◌then◌else◌};
 ghost use Rattle.std.specs.List.{All};
-ghost use Rattle.shape_exact.specs.Each.{sum_below};
+ghost use Rattle.common_lists.specs.Each.{sum_below};
 ghost use Rattle.shape_exact.specs.Shapes.{cells, centre, edges, is_inside, origin, side_of};
 ghost use Rattle.shape_exact.specs.Separation.{IsWithin};
 ghost use Rattle.shape_exact.specs.Cells.{Holds, centre_of};

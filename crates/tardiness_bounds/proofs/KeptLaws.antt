@@ -6,7 +6,7 @@ use Rattle.std.proofs.lemmas.Nat.{div-mul-add, mod-mul-add, mul-add-lt, mul-le}
 use Rattle.std.proofs.lemmas.Option.{same_Some, slice_get-get_or}
 use Rattle.std.proofs.Math.Nat.{mul_comm}
 use Rattle.shape_exact.specs.Yards.{IsYard, PlainYard}
-use Rattle.shape_exact.proofs.EachLaws.{get-append_cases}
+use Rattle.common_lists.proofs.EachLaws.{get-append_cases}
 use Rattle.shape_exact.specs.declared.point.Point.{Point}
 use Rattle.minkowski_obstacles.specs.Pairs.{IsEmptyRow, IsRow, Pair}
 use Rattle.lattice_free.specs.declared.forbidden.Forbidden.{Forbidden}

@@ -6,7 +6,7 @@ use Rattle.std.proofs.lemmas.Bool.{cases_lt}
 use Rattle.std.proofs.lemmas.List.{get_or-map, take_more}
 use Rattle.std.proofs.lemmas.Option.{none-some, same_Some, slice_get_within}
 use Rattle.std.proofs.lemmas.List.Elements.{All-nil, All-push, All-head, All-tail, All-cons}
-use Rattle.shape_exact.proofs.EachLaws.{get-append_cases}
+use Rattle.common_lists.proofs.EachLaws.{get-append_cases}
 use Rattle.plan_rule.specs.declared.literal.Literal.{Literal}
 use Rattle.plan_rule.specs.Boxes.{LeavesFree, exact}
 use Rattle.tardiness_bounds.specs.declared.left.Left.{Left}

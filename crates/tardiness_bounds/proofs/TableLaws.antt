@@ -7,7 +7,7 @@ use Rattle.std.proofs.lemmas.Option.{none-some, same_Some}
 use Rattle.shape_exact.specs.Yards.{PlainYard}
 use Rattle.shape_exact.specs.declared.block.Block.{Block}
 use Rattle.minkowski_obstacles.specs.Pairs.{Pair}
-use Rattle.shape_exact.proofs.EachLaws.{get-append_cases}
+use Rattle.common_lists.proofs.EachLaws.{get-append_cases}
 use Rattle.tardiness_bounds.specs.declared.stretches.StretchList.{StretchList}
 use Rattle.tardiness_bounds.specs.declared.tables.SlotList.{SlotList}
 use Rattle.tardiness_bounds.specs.Footprints.{footprint_count, pair_at, turned_count}

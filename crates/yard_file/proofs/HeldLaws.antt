@@ -6,7 +6,8 @@ use Rattle.std.specs.List.{All}
 use Rattle.std.proofs.lemmas.Bool.{cases_Bool, cases_lt}
 use Rattle.std.proofs.lemmas.Bool.Decides.{nat_tests}
 use Rattle.shape_exact.specs.Separation.{IsWithin}
-use Rattle.shape_exact.specs.Reading.{first_below, first_far, is_near, shape_of, vertex}
+use Rattle.common_lists.specs.Firsts.{first_below}
+use Rattle.shape_exact.specs.Reading.{first_far, is_near, shape_of, vertex}
 use Rattle.shape_exact.specs.declared.point.Point.{Point}
 use Rattle.shape_exact.proofs.ReadLaws.{far_at}
 use Rattle.shape_exact.proofs.FaultLaws.{are_near, far, too_few, too_many}

@@ -7,8 +7,8 @@ use Rattle.shape_exact.specs.Yards.{PlainYard, plate_names, block_names}
 use Rattle.shape_exact.specs.declared.plate.Plate.{Plate}
 use Rattle.shape_exact.specs.declared.block.Block.{Block}
 use Rattle.shape_exact.specs.declared.fixed.Fixed.{Fixed}
-use Rattle.shape_exact.specs.Reading.{where_so}
-use Rattle.shape_exact.proofs.ReadLaws.{none_at}
+use Rattle.common_lists.specs.Firsts.{where_so}
+use Rattle.common_lists.proofs.FirstLaws.{none_at}
 use Rattle.code_table.specs.Placements.{placements}
 use Rattle.code_table.specs.Sizes.{CanBePlanned, most_placements}
 use Rattle.yard_file.specs.Values.{◌>>=◌, value_in, number_in}

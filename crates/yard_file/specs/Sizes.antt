@@ -1,6 +1,6 @@
 -- Blocks with too many placements.
 use Rattle.std.specs.Prelude.{ℕ, Option, nat_lt, length}
-use Rattle.shape_exact.specs.Reading.{first_below, where_so}
+use Rattle.common_lists.specs.Firsts.{first_below, where_so}
 use Rattle.shape_exact.specs.Yards.{PlainYard}
 use Rattle.code_table.specs.Placements.{placements}
 use Rattle.code_table.specs.Sizes.{most_placements}

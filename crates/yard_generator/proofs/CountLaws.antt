@@ -3,8 +3,8 @@ use Rattle.std.proofs.Common.{◌≡◌, ℕ, zero, suc, ◌+◌, ◌*◌, ◌<�
 use Rattle.std.specs.Prelude.{nat_le, slice_get, unwrap_or}
 use Rattle.std.proofs.lemmas.List.{append-nil}
 use Rattle.std.proofs.lemmas.Bool.{lt-leb}
-use Rattle.shape_exact.specs.Each.{each, when, for_some, sum_below}
-use Rattle.shape_exact.proofs.EachLaws.{each-add, each_agree, each-nil, length-each, sum_below-const}
+use Rattle.common_lists.specs.Each.{each, when, for_some, sum_below}
+use Rattle.common_lists.proofs.EachLaws.{each-add, each_agree, each-nil, length-each, sum_below-const}
 use Rattle.shape_exact.specs.Shapes.{turned, reach_x, reach_y}
 use Rattle.plate_calendar.specs.Calendars.{open_days, end_of}
 use Rattle.code_table.specs.declared.placement.Placement.{Placement}

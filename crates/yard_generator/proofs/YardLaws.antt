@@ -10,7 +10,7 @@ use Rattle.toml.specs.Parse.{parse_document}
 use Rattle.toml.specs.View.{items_of}
 use Rattle.shape_exact.specs.Yards.{PlainYard}
 use Rattle.shape_exact.specs.Days.{are_days}
-use Rattle.shape_exact.proofs.ReadLaws.{none_below}
+use Rattle.common_lists.proofs.FirstLaws.{none_below}
 use Rattle.shape_exact.specs.declared.plate.Plate.{Plate}
 use Rattle.shape_exact.specs.declared.block.Block.{Block}
 use Rattle.code_table.specs.Placements.{placements}

@@ -1,6 +1,6 @@
 use Rattle.std.proofs.Common.{◌+◌, sym, subst, arith}
 use Rattle.std.specs.Prelude.{ℕ, Option}
-use Rattle.shape_exact.specs.Each.{each}
+use Rattle.common_lists.specs.Each.{each}
 use Rattle.code_table.specs.Costs.{IsLeastCost}
 use Rattle.code_table.specs.Stands.{nth_stand}
 use Rattle.code_table.proofs.CostLaws.{least_more, least_all}

@@ -1,4 +1,4 @@
-use Rattle.shape_exact.specs.Each.{each}
+use Rattle.common_lists.specs.Each.{each}
 use Rattle.code_table.specs.Costs.{IsLeastCost}
 use Rattle.code_table.specs.Stands.{nth_stand}
 use Rattle.code_table.proofs.least.least_of.Given as goal

@@ -1,5 +1,5 @@
 use Rattle.std.proofs.Common.{◌≡◌, ◌∙◌, ap, sym, arith, length}
-use Rattle.shape_exact.specs.Each.{sum_below}
+use Rattle.common_lists.specs.Each.{sum_below}
 use Rattle.shape_exact.specs.Yards.{PlainYard}
 use Rattle.log_checker.specs.Windows.{plate_room}
 use Rattle.log_checker.proofs.WindowLaws.{capacity_is}

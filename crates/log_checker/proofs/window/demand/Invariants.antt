@@ -1,5 +1,5 @@
 use Rattle.std.proofs.Common.{◌≡◌, ◌*◌, ◌^◌, ◌≤◌}
-use Rattle.shape_exact.specs.Each.{sum_below}
+use Rattle.common_lists.specs.Each.{sum_below}
 use Rattle.plan_rule.specs.Yards.{choices}
 use Rattle.log_checker.specs.Windows.{work_in}
 use Rattle.log_checker.proofs.window.demand.Given as goal

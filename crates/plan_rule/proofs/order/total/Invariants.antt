@@ -1,5 +1,5 @@
 use Rattle.std.proofs.Common.{◌≡◌, ◌*◌, ◌≤◌}
-use Rattle.shape_exact.specs.Each.{sum_below}
+use Rattle.common_lists.specs.Each.{sum_below}
 use Rattle.plan_rule.specs.Plans.{code_of}
 use Rattle.plan_rule.specs.Yards.{choices}
 use Rattle.plan_rule.proofs.order.total.Given as goal

@@ -1,6 +1,6 @@
 use Rattle.std.proofs.Common.{◌≡◌, ◌++◌}
 use Rattle.std.specs.String.{string_bytes}
-use Rattle.shape_exact.specs.Each.{each}
+use Rattle.common_lists.specs.Each.{each}
 use Rattle.plan_text.specs.Texts.{row_text}
 use Rattle.plan_text.proofs.print.put_rows.Given as goal
 

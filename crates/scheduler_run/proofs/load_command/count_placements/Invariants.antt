@@ -1,5 +1,5 @@
 use Rattle.std.proofs.Common.{◌≡◌, ◌*◌, ◌≤◌}
-use Rattle.shape_exact.specs.Each.{sum_below}
+use Rattle.common_lists.specs.Each.{sum_below}
 use Rattle.plan_rule.specs.Choices.{count}
 use Rattle.plan_rule.specs.Yards.{choices}
 use Rattle.scheduler_run.proofs.load_command.count_placements.Given as goal

@@ -1,5 +1,6 @@
 use Rattle.std.proofs.Common.{◌∙◌, sym, ◌+◌, arith}
-use Rattle.shape_exact.proofs.ReadLaws.{equal_at, not_after, unlike, alike, first_more, first_is, none_below}
+use Rattle.common_lists.proofs.FirstLaws.{first_more, first_is, none_below}
+use Rattle.shape_exact.proofs.ReadLaws.{equal_at, not_after, unlike, alike}
 use Rattle.shape_exact.proofs.faults.first_equal_to.Goals as goal
 
 pub loop-j-init : goal.loop-j-init

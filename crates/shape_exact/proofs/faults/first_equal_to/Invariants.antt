@@ -1,5 +1,5 @@
 use Rattle.std.proofs.Common.{◌≡◌, None}
-use Rattle.shape_exact.specs.Reading.{first_below}
+use Rattle.common_lists.specs.Firsts.{first_below}
 use Rattle.shape_exact.proofs.ReadLaws.{equal_at}
 use Rattle.shape_exact.proofs.faults.first_equal_to.Given as goal
 

@@ -1,6 +1,7 @@
 use Rattle.std.proofs.Common.{◌≡◌, ◌∙◌, sym, refl, true, false}
 use Rattle.shape_exact.specs.Reading.{is_near, vertex}
-use Rattle.shape_exact.proofs.ReadLaws.{far_at, first_more, first_is}
+use Rattle.common_lists.proofs.FirstLaws.{first_more, first_is}
+use Rattle.shape_exact.proofs.ReadLaws.{far_at}
 use Rattle.shape_exact.proofs.faults.first_far.Goals as goal
 
 pub loop-i-preserved : goal.loop-i-preserved

@@ -1,5 +1,5 @@
 use Rattle.std.proofs.Common.{◌≡◌, None}
-use Rattle.shape_exact.specs.Reading.{first_below}
+use Rattle.common_lists.specs.Firsts.{first_below}
 use Rattle.shape_exact.proofs.ReadLaws.{far_at}
 use Rattle.shape_exact.proofs.faults.first_far.Given as goal
 

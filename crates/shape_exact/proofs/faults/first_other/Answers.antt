@@ -1,6 +1,7 @@
 use Rattle.std.proofs.Common.{◌≡◌, sym, refl, Some}
 use Rattle.shape_exact.specs.Reading.{other_of_edge}
-use Rattle.shape_exact.proofs.ReadLaws.{sides_at, first_is}
+use Rattle.common_lists.proofs.FirstLaws.{first_is}
+use Rattle.shape_exact.proofs.ReadLaws.{sides_at}
 use Rattle.shape_exact.proofs.faults.first_other.Goals as goal
 
 pub returns-in-Some : goal.returns-in-Some

@@ -1,6 +1,6 @@
 use Rattle.std.proofs.Common.{sym}
 use Rattle.shape_exact.specs.Reading.{sign_of_edge}
-use Rattle.shape_exact.proofs.ReadLaws.{first_is}
+use Rattle.common_lists.proofs.FirstLaws.{first_is}
 use Rattle.shape_exact.proofs.faults.inner_sign.Goals as goal
 
 pub returns-in-Some : goal.returns-in-Some

@@ -1,5 +1,5 @@
 use Rattle.std.proofs.Common.{◌≡◌, None}
-use Rattle.shape_exact.specs.Reading.{first_below}
+use Rattle.common_lists.specs.Firsts.{first_below}
 use Rattle.shape_exact.specs.Reading.{sign_of_edge}
 use Rattle.shape_exact.proofs.faults.inner_sign.Given as goal
 

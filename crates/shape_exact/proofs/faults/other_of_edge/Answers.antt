@@ -1,7 +1,8 @@
 use Rattle.std.proofs.Common.{◌≡◌, ◌∙◌, ap, sym, refl, true, false, FitsSigned, w32}
 use Rattle.std.proofs.lemmas.Int.{to_z-of_z}
 use Rattle.shape_exact.specs.Reading.{is_other, cross_at}
-use Rattle.shape_exact.proofs.ReadLaws.{other_at, first_is, first_more}
+use Rattle.common_lists.proofs.FirstLaws.{first_is, first_more}
+use Rattle.shape_exact.proofs.ReadLaws.{other_at}
 use Rattle.shape_exact.proofs.faults.other_of_edge.Goals as goal
 
 pub returns-then-is_other : goal.returns-then-is_other

@@ -1,7 +1,8 @@
 use Rattle.std.proofs.Common.{◌≡◌, ◌∙◌, ap, sym, Some, None, FitsSigned, w32}
 use Rattle.std.proofs.lemmas.Int.{to_z-of_z}
 use Rattle.shape_exact.specs.Reading.{sign, cross_at}
-use Rattle.shape_exact.proofs.ReadLaws.{sign_at, first_is, first_more}
+use Rattle.common_lists.proofs.FirstLaws.{first_is, first_more}
+use Rattle.shape_exact.proofs.ReadLaws.{sign_at}
 use Rattle.shape_exact.proofs.faults.sign_of_edge.Goals as goal
 
 pub returns-in-Some : goal.returns-in-Some

@@ -1,5 +1,5 @@
 use Rattle.std.proofs.Common.{◌≡◌, ◌<◌, length, Some, sym, rules}
-use Rattle.shape_exact.proofs.ReadLaws.{first_is}
+use Rattle.common_lists.proofs.FirstLaws.{first_is}
 use Rattle.yard_file.specs.Sizes.{too_many}
 use Rattle.yard_file.proofs.sizes.first_too_many.Goals as goal
 

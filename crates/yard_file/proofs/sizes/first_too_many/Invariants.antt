@@ -1,5 +1,5 @@
 use Rattle.std.proofs.Common.{◌≡◌, None}
-use Rattle.shape_exact.specs.Reading.{first_below}
+use Rattle.common_lists.specs.Firsts.{first_below}
 use Rattle.yard_file.specs.Sizes.{too_many}
 use Rattle.yard_file.proofs.sizes.first_too_many.Given as goal
 

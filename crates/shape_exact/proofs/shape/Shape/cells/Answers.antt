@@ -1,7 +1,7 @@
 use Rattle.std.proofs.Common.{◌≡◌, ◌∙◌, ◌≤◌, ℕ, ℤ, pos, arith, ap, w32, FitsSigned}
 use Rattle.std.specs.Prelude.{unsigned_abs}
 use Rattle.std.proofs.lemmas.Int.{to_z-of_z, ints}
-use Rattle.shape_exact.specs.Each.{sum_below}
+use Rattle.common_lists.specs.Each.{sum_below}
 use Rattle.shape_exact.specs.Shapes.{is_inside, origin, centre, reach_x, reach_y}
 use Rattle.shape_exact.proofs.FormLaws.{within}
 use Rattle.shape_exact.proofs.ColumnLaws.{one_if, sum_next, row_small, cells_from}
