@@ -7,6 +7,7 @@ use Rattle.std.proofs.lemmas.List.{length-set, get_or-set_same, get_or-set_other
 use Rattle.std.proofs.lemmas.List.Elements.{All-contains, All-cons, All-nil, All-contains_itself, recursion_from_All}
 use Rattle.std.proofs.lemmas.List.Sorted.{IsPermutation-refl}
 use Rattle.std.proofs.lemmas.Option.{same_Some, slice_get-get_or, get_or_from_slice_get}
+use Rattle.common_lists.proofs.ListLaws.{get_last, if_true}
 use Rattle.plan_rule.specs.declared.literal.Literal.{Literal}
 use Rattle.plan_rule.specs.declared.job.Job.{Job}
 use Rattle.plan_rule.specs.declared.region.Region.{Region}
@@ -25,6 +26,7 @@ use Rattle.plan_rule.proofs.PathLaws.{key-before, path-below}
 use Rattle.plan_rule.proofs.RegionBoxLaws.{region_box_holds}
 use Rattle.plan_rule.proofs.ReportLaws.{merged}
 use Rattle.plan_rule.proofs.SearchLaws.{before_self}
+use Rattle.plan_rule.proofs.EmptyLaws.{empty_box}
 use Rattle.refutation_log.specs.declared.record.Record.{Record}
 use Rattle.refutation_log.specs.declared.record.Record.TheVariants.{Branch}
 use Rattle.refutation_log.specs.Logs.{AreSteps}
@@ -35,13 +37,10 @@ use Rattle.branch_kernel.specs.Rivals.{IsRival, IsNotAfter, Settles}
 use Rattle.branch_kernel.specs.States.{State}
 use Rattle.branch_kernel.specs.Written.{IsBranchWritten}
 use Rattle.branch_kernel.proofs.CoverLaws.{exist-box}
-use Rattle.branch_kernel.proofs.GrowthLaws.{slice_get-last}
-use Rattle.branch_kernel.proofs.WithLaws.{if_true}
 use Rattle.branch_core.specs.declared.report.Report.{Report}
 use Rattle.branch_core.specs.Answers.{RecordsAreSteps}
 use Rattle.branch_core.specs.Closed.{IsClosedOff}
 use Rattle.branch_core.specs.Proper.{AreProper}
-use Rattle.branch_core.proofs.EmptyLaws.{empty_box}
 use Rattle.branch_core.specs.Solved.{IsRefutation, IsSolvable, IsSolved, report_of, root}
 
 -- the best of the reports is within the bar of each report, and not after its best
@@ -204,7 +203,7 @@ closed_off c log new b last e range side none items number exists one l at whole
         length log,
         Branch b 0 1 [] list,
         (let n = length-append log (Branch b 0 1 [] list ∷ []) in let m = ap length grown in omega arith),
-        subst (λ new. slice_get new (length log) ≡ Some (Branch b 0 1 [] list)) (sym grown) (slice_get-last log (Branch b 0 1 [] list)),
+        subst (λ new. slice_get new (length log) ≡ Some (Branch b 0 1 [] list)) (sym grown) (get_last log (Branch b 0 1 [] list)),
         close_result c b list one,
       );
     }
@@ -240,7 +239,7 @@ root_solved c job old new r solved at small none empty same =
           (let n = ap length empty in omega arith) less,
     )
 
-best_answers : (c : Choices) (t : Option (List ℕ)) → IsBest c t → IsAnswer c t
+pub best_answers : (c : Choices) (t : Option (List ℕ)) → IsBest c t → IsAnswer c t
 best_answers c None is = tt
 best_answers c (Some p) is = is.0
 

@@ -4,13 +4,15 @@ use Rattle.std.specs.Prelude.{Result, Ok, Err, IfOk, OnErr, slice_get, ◌==◌,
 use Rattle.std.specs.List.{Contains}
 use Rattle.std.proofs.lemmas.Option.{none-some}
 use Rattle.std.proofs.lemmas.List.Elements.{All-nil}
+use Rattle.common_lists.proofs.ListLaws.{get_last, if_true}
 use Rattle.shape_exact.specs.declared.memory.NoMemory.{NoMemory}
 use Rattle.plan_rule.specs.declared.literal.Literal.{Literal}
 use Rattle.plan_rule.specs.declared.job.Job.{Job}
 use Rattle.plan_rule.specs.Choices.{Choices, blocks, count}
-use Rattle.plan_rule.specs.Boxes.{IsBox, IsLiteral, with_literal}
+use Rattle.plan_rule.specs.Boxes.{IsBox, with_literal}
 use Rattle.plan_rule.specs.Paths.{IsInRegion}
 use Rattle.plan_rule.specs.Reports.{IsBar}
+use Rattle.plan_rule.proofs.EmptyLaws.{empty_box}
 use Rattle.refutation_log.specs.declared.record.Record.{Record}
 use Rattle.refutation_log.specs.declared.record.Record.TheVariants.{Branch}
 use Rattle.refutation_log.specs.Steps.{IsStep, result_of}
@@ -32,11 +34,7 @@ use Rattle.branch_kernel.specs.Written.{IsBranchWritten}
 use Rattle.branch_core.proofs.RegionLaws.{part_whole}
 use Rattle.branch_core.proofs.SolveLaws.{ends_falls, part_same}
 use Rattle.branch_kernel.proofs.EndLaws.{ends_add, ends_from}
-use Rattle.branch_kernel.proofs.GrowthLaws.{grows_self, slice_get-last}
-use Rattle.branch_kernel.proofs.WithLaws.{if_true}
-
-pub empty_box : (c : Choices) → IsBox c []
-empty_box c = record { ascending = λ i j l m lt e f. absurd (none-some l e); each = All-nil (IsLiteral c) }
+use Rattle.branch_kernel.proofs.GrowthLaws.{grows_self}
 
 empty_step : (c : Choices) (t : Option (List ℕ)) (log : List Record) (b : ℕ) (list : List ℕ) → b < blocks c → count c b ≡ 0 → ((x : ℕ) → Contains list x → ⊥) → IsStep c t log (Branch b 0 0 [] list)
 empty_step c t log b list exists none no_cites = record {
@@ -87,7 +85,7 @@ empty_solved c job bar bar' seen log new store shown ready falls e is_bar is =
       last = (let n = length-append log (Branch b 0 0 [] list ∷ []) in let m = ap length grown in omega arith);
       refutes = (
         Branch b 0 0 [] list,
-        subst (λ k. slice_get new k ≡ Some (Branch b 0 0 [] list)) (sym at) (subst (λ new. slice_get new (length log) ≡ Some (Branch b 0 0 [] list)) (sym grown) (slice_get-last log (Branch b 0 0 [] list))),
+        subst (λ k. slice_get new k ≡ Some (Branch b 0 0 [] list)) (sym at) (subst (λ new. slice_get new (length log) ≡ Some (Branch b 0 0 [] list)) (sym grown) (get_last log (Branch b 0 0 [] list))),
         record { box = subst (IsBox c) (sym (empty_result c b list none)) (empty_box c); part = λ codes lo hi part. (let (q, inside) = part.some in absurd (no_plan q inside)); empty = λ _ _ _. empty_result c b list none },
       );
     }

@@ -1,7 +1,6 @@
 -- The box of a prefix is the list of its exact literals.
 use Rattle.std.proofs.Common.{◌≡◌, ℕ, zero, suc, ◌+◌, ◌/◌, ◌^◌, ◌<◌, ◌≤◌, List, [], ◌∷◌, length, get_or, take, Option, Some, None, ◌⊎◌, refl, sym, ap, ◌∙◌, subst, inl, inr, arith}
-use Rattle.std.specs.Prelude.{Result, Ok, Err, IfOk, MatchOption}
-use Rattle.std.proofs.lemmas.Option.{none-some, same_Some}
+use Rattle.std.specs.Prelude.{Result, Ok, Err, IfOk}
 use Rattle.std.specs.List.{All, Contains}
 use Rattle.std.proofs.lemmas.Bool.{cases_order}
 use Rattle.std.proofs.lemmas.List.Elements.{All-contains, All-contains_itself, All-head, All-tail, All-cons, All-nil, All-weaker}
@@ -141,7 +140,3 @@ pub cites_first : (store : List Nogood) (codes : List ℕ) (p tag : ℕ) (old ne
 cites_first store codes p tag old new (Err e) one cites q other two = tt
 cites_first store codes p tag old new (Ok shown) one (r, grown, cited) q other two =
     (r, grown, subst (Contains (cites_of r)) (first_hit_unique store codes p q tag other one two) cited)
-
-pub match_some : {T : Type 0} (o : Option T) (A : Type 0) (F : T → Type 0) (x : T) → MatchOption o A F → o ≡ Some x → F x
-match_some None A F x h e = absurd (none-some x e)
-match_some (Some y) A F x h e = subst F (same_Some y x e) h

@@ -6,6 +6,7 @@ use Rattle.std.proofs.lemmas.Bool.{cases_lt}
 use Rattle.std.proofs.lemmas.List.{length-take-le}
 use Rattle.std.proofs.lemmas.List.Elements.{All-head, All-weaker, All-nil, recursion_from_All}
 use Rattle.std.proofs.lemmas.Option.{same_Some, get_or_from_slice_get}
+use Rattle.common_lists.proofs.ListLaws.{get_within}
 use Rattle.plan_rule.specs.declared.literal.Literal.{Literal}
 use Rattle.plan_rule.specs.Choices.{Choices}
 use Rattle.plan_rule.specs.Boxes.{IsBox, IsLiteral}
@@ -19,7 +20,6 @@ use Rattle.refutation_log.specs.Citations.{Ascend, AreCites}
 use Rattle.refutation_log.specs.Logs.{cites_of}
 use Rattle.refutation_log.specs.Spelling.{IsSide, IsLiteral as HasSpan}
 use Rattle.refutation_log.specs.Steps.{IsStep, IsStepAt}
-use Rattle.refutation_log.proofs.AppendedLaws.{within}
 use Rattle.branch_kernel.specs.Known.{AreKnown}
 use Rattle.branch_kernel.specs.Rivals.{IsRival}
 use Rattle.branch_kernel.specs.States.{State, IsHeld}
@@ -80,7 +80,7 @@ pub proper_from : (c : Choices) (t : Option (List ℕ)) (log : List Record) (fro
     → ((i : ℕ) (r : Record) → from ≤ i → slice_get log i ≡ Some r → AreCites (cites_of r))
     → ((i : ℕ) → from ≤ i → i < length log → IsStepAt c t log i) → AreProper c from log
 proper_from c t log from known days ascend steps i r low at =
-    let inside = within log i r at in
+    let inside = get_within log i r at in
     let (s, there, step) = steps i low inside in
     let same : s ≡ r = same_Some s r (sym there ∙ at) in
     let size : length (take i log) ≡ i = length-take-le i log (omega arith) in
@@ -120,7 +120,7 @@ ascend_more log items from i d e same is ascend before k r low less here = elim 
 pub ascend_all : (log : List Record) (from i : ℕ) → length log ≤ i
     → ((k : ℕ) (r : Record) → from ≤ k → k < i → slice_get log k ≡ Some r → AreCites (cites_of r))
     → (k : ℕ) (r : Record) → from ≤ k → slice_get log k ≡ Some r → AreCites (cites_of r)
-ascend_all log from i far before k r low here = before k r low (let w = within log k r here in omega arith) here
+ascend_all log from i far before k r low here = before k r low (let w = get_within log k r here in omega arith) here
 
 -- the new records of a search are proper
 pub proper_ends : (c : Choices) (old new : State) (seen from : ℕ) (log' : List Record) → Ends c old new → IsHeld c new.bar new.best → IsBar c seen → seen ≡ new.bar → log' ≡ old.log → from ≡ length log'
@@ -133,4 +133,4 @@ proper_ends c old new seen from log' ends held is e same f proper =
 
 -- no record is new
 pub proper_none : (c : Choices) (log : List Record) → AreProper c (length log) log
-proper_none c log i r low here = absurd (let w = within log i r here in omega arith)
+proper_none c log i r low here = absurd (let w = get_within log i r here in omega arith)

@@ -14,6 +14,7 @@ use Rattle.plan_rule.specs.Boxes.{Holds, HasExact, exact, with_literal}
 use Rattle.plan_rule.specs.Paths.{IsInRegion}
 use Rattle.plan_rule.specs.Regions.{IsRegionPart}
 use Rattle.plan_rule.specs.RegionBoxes.{region_box}
+use Rattle.plan_rule.proofs.BehindLaws.{exact_has}
 use Rattle.refutation_log.specs.declared.record.Record.{Record}
 use Rattle.refutation_log.specs.declared.record.Record.TheVariants.{Branch}
 use Rattle.nogood_store.specs.declared.nogood.Nogood.{Nogood}
@@ -38,7 +39,7 @@ use Rattle.branch_kernel.proofs.DropLaws.{by_clash, by_piece, by_side, marks_box
 use Rattle.branch_kernel.proofs.EndLaws.{closed_last, ends_from, ends_onto}
 use Rattle.branch_kernel.proofs.GrowthLaws.{hit_answers, handled_cite, cited_one}
 use Rattle.branch_kernel.proofs.NodeLaws.{node_is_box, runs_self, cited_empty, leaf_beats, base_handles}
-use Rattle.branch_kernel.proofs.WithLaws.{with_clear, exact_contains, rises_from, exact_of_literal, exact_feasible}
+use Rattle.branch_kernel.proofs.WithLaws.{with_clear, rises_from, exact_of_literal, exact_feasible}
 
 -- no hit here, and what comes after
 pub hit_more : (store store' : List Nogood) (codes prefix : List ℕ) (place d : ℕ) (o : Option (ℕ × ℕ)) → place < length codes → prefix ≡ take place codes → store' ≡ store
@@ -197,7 +198,7 @@ misfit_handled c s codes misfit needs items known is exists marked = go misfit.o
         → IsHandledBy c s s false misfit.side needs items misfit.place (code_of codes misfit.place)
     go None e met = by_piece c s s false misfit.side needs items misfit.place (code_of codes misfit.place) exists met
     go (Some a) e (d, exacts, clash) =
-        let below : a < blocks c = All-contains (λ l. l.block < blocks c) misfit.side (exact a d) (exist-box c misfit.side is.front.is) (exact_contains misfit.side a d exacts) in
+        let below : a < blocks c = All-contains (λ l. l.block < blocks c) misfit.side (exact a d) (exist-box c misfit.side is.front.is) (exact_has misfit.side a d exacts) in
         by_clash c s s false misfit.side needs items misfit.place (code_of codes misfit.place) a d is.front.is (front_free c codes misfit.place misfit.side is.front) exists
         (marked a e (let w = known.few in omega arith)) exacts clash
 

@@ -17,6 +17,7 @@ use Rattle.plan_rule.proofs.OnePartLaws.{one_part}
 use Rattle.plan_rule.specs.RegionBoxes.{exact_literals, range_literal, region_box}
 use Rattle.plan_rule.specs.Reports.{IsBar, IsReached, IsLeast}
 use Rattle.plan_rule.proofs.BoxLaws.{HoldsCode, held_with, held_without}
+use Rattle.plan_rule.proofs.WithLaws.{with_self}
 use Rattle.refutation_log.specs.declared.record.Record.{Record}
 use Rattle.refutation_log.specs.Steps.{result_of}
 use Rattle.nogood_store.specs.declared.nogood.Nogood.{Nogood}
@@ -34,7 +35,7 @@ use Rattle.branch_kernel.proofs.DropLaws.{answered_of}
 use Rattle.branch_kernel.proofs.GrowthLaws.{clean_falls, settles_falls}
 use Rattle.branch_kernel.proofs.NodeLaws.{held_falls}
 use Rattle.branch_kernel.proofs.RivalLaws.{later_self, later_trans, rival_later}
-use Rattle.branch_kernel.proofs.WithLaws.{with_box, with_all, with_self, contains_with, exact_literal, if_false}
+use Rattle.branch_kernel.proofs.WithLaws.{with_box, with_all, contains_with, exact_literal, if_false}
 
 -- what holds of a job's part holds of each, since there is one
 pub part_same : (c : Choices) (job : Job) (P : List ℕ → ℕ → ℕ → Type 0) (codes other : List ℕ) (lo hi low high : ℕ) → IsRegionPart c job codes lo hi

@@ -4,13 +4,13 @@ use Rattle.std.proofs.lemmas.List.Elements.{All-cons, All-nil}
 use Rattle.plan_rule.specs.declared.literal.Literal.{Literal}
 use Rattle.plan_rule.specs.Choices.{Choices, blocks, count}
 use Rattle.plan_rule.specs.Boxes.{IsBox, exact}
+use Rattle.plan_rule.proofs.EmptyLaws.{empty_box}
 use Rattle.refutation_log.specs.declared.record.Record.{Record}
 use Rattle.refutation_log.specs.declared.record.Record.TheVariants.{Fit}
 use Rattle.nogood_store.specs.declared.nogood.Nogood.{Nogood}
 use Rattle.branch_kernel.specs.Stored.{IsStored, IsTagged}
 use Rattle.branch_kernel.proofs.CoverLaws.{covers_self}
 use Rattle.branch_kernel.proofs.WithLaws.{with_box, exact_literal}
-use Rattle.branch_core.proofs.EmptyLaws.{empty_box}
 
 -- the fit of the first block's first code is the log's one record, and its box the store's one box
 pub stored_one : (c : Choices) (log : List Record) (nogoods : List Nogood) (side part : List Literal) (l : Literal) → l ≡ exact 0 0 → side ≡ l ∷ [] → part ≡ l ∷ []

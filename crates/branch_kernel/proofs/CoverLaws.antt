@@ -5,7 +5,8 @@ use Rattle.std.proofs.lemmas.List.Elements.{All-contains, All-contains_itself, A
 use Rattle.plan_rule.specs.declared.literal.Literal.{Literal}
 use Rattle.plan_rule.specs.Choices.{Choices, blocks, count}
 use Rattle.plan_rule.specs.Boxes.{IsBox, IsLiteral, IsWhole, LeavesFree, Covers, exact, with_literal}
-use Rattle.branch_kernel.proofs.WithLaws.{contains_with, with_contains, with_self}
+use Rattle.plan_rule.proofs.WithLaws.{with_self}
+use Rattle.branch_kernel.proofs.WithLaws.{contains_with, with_contains}
 
 -- the blocks of a box exist
 pub exist-box : (c : Choices) (box : List Literal) → IsBox c box → All (λ l. l.block < blocks c) box

@@ -5,12 +5,15 @@ use Rattle.std.specs.Prelude.{Ok, slice_get, ◌&&◌, ◌==◌, if◌then◌els
 use Rattle.std.proofs.lemmas.Bool.{cases_lt, cond-true}
 use Rattle.std.proofs.lemmas.List.Elements.{All-filter, All-contains, All-contains_itself, All-weaker, All-head, All-tail}
 use Rattle.std.proofs.lemmas.Option.{none-some, same_Some}
+use Rattle.common_lists.proofs.ListLaws.{contains_filter}
 use Rattle.plan_rule.specs.declared.literal.Literal.{Literal}
 use Rattle.plan_rule.specs.Choices.{Choices, MeetsSome, blocks, count}
 use Rattle.plan_rule.specs.Boxes.{IsBox, IsLiteral, IsWhole, LeavesFree, HasExact, exact_code, Covers, exact, with_literal}
 use Rattle.plan_rule.specs.Bounds.{IsLeastOf, IsSumOfLeast, IsBound, MayTake, MayFit, IsBase, IsFit, IsAtMost, Refutes}
 use Rattle.plan_rule.specs.Plans.{total}
 use Rattle.plan_rule.proofs.BoxLaws.{held_covered}
+use Rattle.plan_rule.proofs.WithLaws.{with_self}
+use Rattle.plan_rule.proofs.BehindLaws.{exact_has}
 use Rattle.refutation_log.specs.declared.record.Record.{Record}
 use Rattle.refutation_log.specs.declared.record.Record.TheVariants.{Branch}
 use Rattle.refutation_log.specs.Steps.{result_of}
@@ -27,7 +30,7 @@ use Rattle.branch_kernel.specs.Shows.{IsHandledBy, IsShown, IsHandled, IsAnswere
 use Rattle.branch_kernel.specs.Growth.{Grows}
 use Rattle.branch_kernel.specs.Written.{IsBranchWritten}
 use Rattle.branch_kernel.proofs.GrowthLaws.{handled_clash, handled_piece, handled_cite, hit_answers, answered_from, cited_one}
-use Rattle.branch_kernel.proofs.WithLaws.{Rises, rises_from, rises_to, rises_filter, exact_of_literal, exact_contains, contains_filter, with_contains, contains_with, with_self, with_all, at_place}
+use Rattle.branch_kernel.proofs.WithLaws.{Rises, rises_from, rises_to, rises_filter, exact_of_literal, with_contains, contains_with, with_all, at_place}
 use Rattle.branch_kernel.proofs.CoverLaws.{exist-box, covers_by}
 use Rattle.branch_kernel.proofs.NodeLaws.{divide_done, kept_done, node_is_box, shown_of}
 
@@ -47,11 +50,11 @@ kept_inside keep side = All-filter (λ l. keep l.block) (Contains side) side (Al
 pub kept_has_exact : (keep : ℕ → Bool) (side : List Literal) (a d : ℕ) → Rises side → keep a ≡ true → HasExact side a d → HasExact (kept keep side) a d
 kept_has_exact keep side a d r k exacts =
     exact_of_literal (kept keep side) (exact a d) (rises_filter (λ l. keep l.block) side r) refl
-    (contains_filter (λ l. keep l.block) side (exact a d) k (exact_contains side a d exacts))
+    (contains_filter (λ l. keep l.block) side (exact a d) k (exact_has side a d exacts))
 
 pub side_has_exact : (keep : ℕ → Bool) (side : List Literal) (a d : ℕ) → Rises side → HasExact (kept keep side) a d → HasExact side a d
 side_has_exact keep side a d r exacts =
-    exact_of_literal side (exact a d) r refl (All-contains (Contains side) (kept keep side) (exact a d) (kept_inside keep side) (exact_contains (kept keep side) a d exacts))
+    exact_of_literal side (exact a d) r refl (All-contains (Contains side) (kept keep side) (exact a d) (kept_inside keep side) (exact_has (kept keep side) a d exacts))
 
 -- what is kept of a side without a clash has none
 pub kept_clear : (c : Choices) (keep : ℕ → Bool) (side : List Literal) → Rises side → IsClear c side → IsClear c (kept keep side)
@@ -92,7 +95,7 @@ sum_falls May More cost (suc n) k j more (s, m, hs, ((x, may, e), least), f) (t,
     let a = sum_falls May More cost n s t (λ b x l. more b x (omega arith)) hs ht in
     let b = lowest x (more n x (omega arith) may) in omega arith
 
-sum_some : (May : ℕ → ℕ → Type 0) (cost : ℕ → ℕ → ℕ) (n k b : ℕ) → b < n → IsSumOfLeast May cost n k → (x : ℕ) × May b x
+pub sum_some : (May : ℕ → ℕ → Type 0) (cost : ℕ → ℕ → ℕ) (n k b : ℕ) → b < n → IsSumOfLeast May cost n k → (x : ℕ) × May b x
 sum_some May cost zero k b l h = absurd (omega arith)
 sum_some May cost (suc n) k b l (s, m, hs, ((x, may, e), least), f) = elim (cases_lt b n) [
   | inl below ↦ sum_some May cost n s b below hs

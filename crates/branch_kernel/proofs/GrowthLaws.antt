@@ -1,11 +1,12 @@
 -- How the steps of a search make its state grow, and when a code of a branch is handled.
-use Rattle.std.proofs.Common.{◌≡◌, ◌≢◌, ℕ, zero, suc, ◌+◌, ◌/◌, ◌^◌, ◌<◌, ◌≤◌, List, [], ◌∷◌, ◌++◌, length, get_or, Option, Some, None, refl, sym, ap, ◌∙◌, subst, inl, inr, arith, Bool, true, false, cond, length-append, append_assoc}
+use Rattle.std.proofs.Common.{◌≡◌, ◌≢◌, ℕ, zero, suc, ◌+◌, ◌/◌, ◌^◌, ◌<◌, ◌≤◌, List, [], ◌∷◌, ◌++◌, length, get_or, Option, Some, None, refl, sym, ap, ◌∙◌, subst, inl, inr, arith, Bool, true, false, length-append, append_assoc}
 use Rattle.std.specs.Prelude.{◌==◌, ◌&&◌, slice_get}
 use Rattle.std.specs.List.{All, Contains}
 use Rattle.std.proofs.lemmas.Bool.{cases_lt, eqb-true, and_parts, true≢false, false≢true}
-use Rattle.std.proofs.lemmas.List.{take-append-le, append-nil, take_at}
+use Rattle.std.proofs.lemmas.List.{append-nil, take_at}
 use Rattle.std.proofs.lemmas.List.Elements.{All-weaker, All-append, All-contains, All-nil, All-cons}
-use Rattle.std.proofs.lemmas.Option.{none-some, same_Some, slice_get_within}
+use Rattle.std.proofs.lemmas.Option.{same_Some, slice_get_within}
+use Rattle.common_lists.proofs.ListLaws.{get_before, get_last}
 use Rattle.plan_rule.specs.declared.literal.Literal.{Literal}
 use Rattle.plan_rule.specs.Choices.{Choices, MeetsSome, blocks, count}
 use Rattle.plan_rule.specs.Plans.{code_of}
@@ -13,11 +14,13 @@ use Rattle.plan_rule.specs.Boxes.{IsBox, Holds, LeavesFree, HasExact, Covers, ex
 use Rattle.plan_rule.specs.Bounds.{IsBase, IsFit, IsEnergy, IsAtMost}
 use Rattle.plan_rule.proofs.BoundLaws.{exact-all, base-at_most, fit-at_most, held_code, held_block}
 use Rattle.plan_rule.specs.Laws.{IsSound}
-use Rattle.plan_rule.proofs.BoxLaws.{HoldsCode, held_with, held_without, held_covered}
+use Rattle.plan_rule.proofs.BoxLaws.{held_with, held_covered}
 use Rattle.refutation_log.specs.declared.record.Record.{Record}
 use Rattle.refutation_log.specs.declared.record.Record.TheVariants.{Branch, Fit, Energy}
-use Rattle.refutation_log.specs.Steps.{result_of, IsCited, IsCovered, IsRange, IsStep, IsStepAt}
+use Rattle.refutation_log.specs.Steps.{result_of, IsCited, IsCovered, IsRange, IsStep}
 use Rattle.refutation_log.specs.Logs.{cites_of}
+use Rattle.refutation_log.proofs.AppendedLaws.{earlier_step}
+use Rattle.refutation_log.proofs.AcceptedLaws.{either_held}
 use Rattle.nogood_store.specs.declared.nogood.Nogood.{Nogood}
 use Rattle.branch_kernel.specs.Rivals.{IsRival, Settles, IsGood, IsLater, Beats}
 use Rattle.branch_kernel.specs.States.{State, relied}
@@ -29,38 +32,22 @@ use Rattle.branch_kernel.specs.Growth.{Grows}
 use Rattle.branch_kernel.proofs.RivalLaws.{rival_later, settled_later, later_trans, later_self, later_none}
 use Rattle.branch_kernel.proofs.CoverLaws.{covers_self, covers_trans, exist-box}
 
--- what stands in a list stands in it when it has grown
-pub slice_get-more : {X : Type 0} (xs ys : List X) (i : ℕ) (x : X) → slice_get xs i ≡ Some x → slice_get (xs ++ ys) i ≡ Some x
-slice_get-more [] ys i x e = absurd (none-some x e)
-slice_get-more (y ∷ xs) ys zero x e = e
-slice_get-more (y ∷ xs) ys (suc i) x e = slice_get-more xs ys i x e
-
 -- what stands in a grown list before the old end stands in the old list
 pub slice_get-less : {X : Type 0} (xs ys : List X) (i : ℕ) (x : X) → i < length xs → slice_get (xs ++ ys) i ≡ Some x → slice_get xs i ≡ Some x
 slice_get-less [] ys i x l e = absurd (omega arith)
 slice_get-less (y ∷ xs) ys zero x l e = e
 slice_get-less (y ∷ xs) ys (suc i) x l e = slice_get-less xs ys i x (omega arith) e
 
-pub slice_get-last : {X : Type 0} (xs : List X) (x : X) → slice_get (xs ++ x ∷ []) (length xs) ≡ Some x
-slice_get-last [] x = refl
-slice_get-last (y ∷ xs) x = slice_get-last xs x
-
--- a step stays a step in a grown log
-pub step_more : (c : Choices) (t : Option (List ℕ)) (log more : List Record) (i : ℕ) → IsStepAt c t log i → IsStepAt c t (log ++ more) i
-step_more c t log more i (r, at, step) =
-    let l = slice_get_within log i r at in
-    (r, slice_get-more log more i r at, subst (λ front. IsStep c t front r) (sym (take-append-le i log more (omega arith))) step)
-
 -- a good record stays good
 pub good_later : (c : Choices) (bar bar' : ℕ) (best best' : Option (List ℕ)) (log more : List Record) (i : ℕ) → bar < 2 ^ 64
     → IsLater c bar best bar' best' → IsGood c bar best log i → IsGood c bar' best' (log ++ more) i
-good_later c bar bar' best best' log more i b h good t rival = step_more c t log more i (good t (rival_later c bar bar' best best' t b h rival))
+good_later c bar bar' best best' log more i b h good t rival = earlier_step c t log more i (good t (rival_later c bar bar' best best' t b h rival))
 
 -- the record that is pushed
 pub good_push : (c : Choices) (bar : ℕ) (best : Option (List ℕ)) (log : List Record) (r : Record)
     → ((t : Option (List ℕ)) → IsRival c bar best t → IsStep c t log r) → IsGood c bar best (log ++ r ∷ []) (length log)
 good_push c bar best log r steps t rival =
-    (r, slice_get-last log r, subst (λ front. IsStep c t front r) (sym (take_at log (r ∷ []) (length log) refl)) (steps t rival))
+    (r, get_last log r, subst (λ front. IsStep c t front r) (sym (take_at log (r ∷ []) (length log) refl)) (steps t rival))
 
 -- what rests on the best, or on no best, is later as the best is
 pub later_relied : (c : Choices) (tie : Bool) (bar bar' : ℕ) (best best' : Option (List ℕ)) → IsLater c bar best bar' best' → IsLater c bar (relied tie best) bar' (relied tie best')
@@ -91,7 +78,7 @@ pub clean_push : (c : Choices) (bar : ℕ) (log : List Record) (r : Record) → 
     → All (λ k. k < length log) (cites_of r) → All (IsClean c bar log) (cites_of r) → IsClean c bar (log ++ r ∷ []) (length log)
 clean_push c bar log r b steps earlier clean zero i e = subst (IsGood c bar None (log ++ r ∷ [])) e (good_push c bar None log r steps)
 clean_push c bar log r b steps earlier clean (suc n) i (r', j, at, cited, below, rest) =
-    let same : r' ≡ r = same_Some r' r (sym at ∙ slice_get-last log r) in
+    let same : r' ≡ r = same_Some r' r (sym at ∙ get_last log r) in
     let inside : Contains (cites_of r) j = subst (λ r. Contains (cites_of r) j) same cited in
     let l : j < length log = All-contains (λ k. k < length log) (cites_of r) j earlier inside in
     clean_later c bar bar log (r ∷ []) j b (omega arith) l (All-contains (IsClean c bar log) (cites_of r) j clean inside) n i rest
@@ -120,7 +107,7 @@ pub fresh_more : (c : Choices) (old : ℕ) (log more : List Record) (e : Nogood)
 fresh_more c old log more e f = record {
   record_is = f.record_is;
   new = f.new;
-  at = slice_get-more log more e.tag f.record_is f.at;
+  at = get_before log more e.tag f.record_is f.at;
   result = f.result;
   part_is = f.part_is;
 }
@@ -195,16 +182,16 @@ grows_falls c bar bar' best log store fits l =
     grows_later c bar bar' best best log store fits (let e = later_self c bar best in record { falls = l; no_worse = e.no_worse })
 
 -- the tags stay numbers of records
-tagged_more : (c : Choices) (log more : List Record) (e : Nogood) → IsTagged c log e → IsTagged c (log ++ more) e
+pub tagged_more : (c : Choices) (log more : List Record) (e : Nogood) → IsTagged c log e → IsTagged c (log ++ more) e
 tagged_more c log more e t = record {
   record_is = t.record_is;
-  at = slice_get-more log more e.tag t.record_is t.at;
+  at = get_before log more e.tag t.record_is t.at;
   contains = t.contains;
   result_is = t.result_is;
   part_is = t.part_is;
 }
 
-fresh_tagged : (c : Choices) (old : ℕ) (log : List Record) (e : Nogood) → IsFresh c old log e → IsTagged c log e
+pub fresh_tagged : (c : Choices) (old : ℕ) (log : List Record) (e : Nogood) → IsFresh c old log e → IsTagged c log e
 fresh_tagged c old log e f = record {
   record_is = f.record_is;
   at = f.at;
@@ -243,7 +230,7 @@ grows_add c s bar best log store r fits tagged g steps asked =
         | inr new ↦
             let m = slice_get_within (log ++ r ∷ []) i r' at in
             let f : i ≡ length log = omega arith in
-            subst (IsAsked c (s.bar / 2 ^ 32)) (same_Some r r' (sym (slice_get-last log r) ∙ subst (λ i. slice_get (log ++ r ∷ []) i ≡ Some r') f at)) asked
+            subst (IsAsked c (s.bar / 2 ^ 32)) (same_Some r r' (sym (get_last log r) ∙ subst (λ i. slice_get (log ++ r ∷ []) i ≡ Some r') f at)) asked
       ];
       stored = (boxes, f, All-weaker (IsFresh c (length s.log) log) (IsFresh c (length s.log) (log ++ r ∷ [])) (fresh_more c (length s.log) log (r ∷ [])) boxes fresh);
       settles = g.settles;
@@ -316,7 +303,7 @@ handled_cite c start s tie side cites b code k cited answer = record {
 
 cited_more : (c : Choices) (log more : List Record) (cites cites' : List ℕ) (box : List Literal)
     → ((k : ℕ) → Contains cites k → Contains cites' k) → IsCited c log cites box → IsCited c (log ++ more) cites' box
-cited_more c log more cites cites' box some (k, r, cited, at, cover) = (k, r, some k cited, slice_get-more log more k r at, cover)
+cited_more c log more cites cites' box some (k, r, cited, at, cover) = (k, r, some k cited, get_before log more k r at, cover)
 
 covered_more : (c : Choices) (t : Option (List ℕ)) (log more : List Record) (side : List Literal) (cites cites' : List ℕ) (b code : ℕ)
     → ((k : ℕ) → Contains cites k → Contains cites' k) → IsCovered c t log side cites b code → IsCovered c t (log ++ more) side cites' b code
@@ -406,12 +393,6 @@ cited_one c start s tie k box h = record {
   clean = λ right none. All-cons (IsClean c s.bar s.log) k [] (h.clean right none) (All-nil (IsClean c s.bar s.log));
 }
 
--- a plan in a side, or in a side with a literal more, is in the side and has a code in the literal's range
-pub either_held : (l : Literal) (side : List Literal) (q : List ℕ) (whole : Bool) → LeavesFree side l.block → (whole ≡ true → HoldsCode q l)
-    → Holds (cond whole side (with_literal side l)) q → Holds side q × HoldsCode q l
-either_held l side q true free w h = (h, w refl)
-either_held l side q false free w h = held_without side l q free h
-
 -- the literal of a branch's range
 abbrev pub range_literal : ℕ → ℕ → ℕ → Literal
 range_literal b lo hi = record { block = b; lo = lo; hi = hi }
@@ -447,7 +428,7 @@ pub branch_answers : (c : Choices) (start s : State) (tie : Bool) (side : List L
     → IsAnswered c start (record { bar = s.bar; best = s.best; log = s.log ++ Branch b lo hi side cites ∷ []; store = s.store }) tie (length s.log) box
 branch_answers c start s tie side cites b lo hi box fits is exists free range cited handled result cover = record {
   record_is = Branch b lo hi side cites;
-  at = slice_get-last s.log (Branch b lo hi side cites);
+  at = get_last s.log (Branch b lo hi side cites);
   contains = cover;
   settles = λ right q feasible held. branch_settles c start s tie side cites b lo hi exists free handled right q feasible
       (held_covered c (result_of c (Branch b lo hi side cites)) box q (exist-box c (result_of c (Branch b lo hi side cites)) result) feasible.is_plan cover held);
@@ -469,7 +450,7 @@ fit_answers c start s tie side box r fits is fit beats cover = (
   λ t rival. (is, (r, fit, beats.refutes t rival)),
   record {
     record_is = Fit side;
-    at = slice_get-last s.log (Fit side);
+    at = get_last s.log (Fit side);
     contains = cover;
     settles = λ _ q feasible held.
         let inside = held_covered c side box q (exist-box c side is) feasible.is_plan cover held in
@@ -493,7 +474,7 @@ energy_answers c start s tie from to side box r fits sound is order day energy b
   λ t rival. (is, order, day, (r, energy, beats.refutes t rival)),
   record {
     record_is = Energy from to side;
-    at = slice_get-last s.log (Energy from to side);
+    at = get_last s.log (Energy from to side);
     contains = cover;
     settles = λ _ q feasible held.
         let inside = held_covered c side box q (exist-box c side is) feasible.is_plan cover held in

@@ -5,6 +5,7 @@ use Rattle.std.specs.List.{Contains}
 use Rattle.std.proofs.lemmas.Bool.{eq-eqb, false≢true}
 use Rattle.std.proofs.lemmas.Option.{none-some}
 use Rattle.std.proofs.lemmas.List.Elements.{All-contains, All-contains_itself}
+use Rattle.common_lists.proofs.ListLaws.{get_last}
 use Rattle.shape_exact.specs.declared.memory.NoMemory.{NoMemory}
 use Rattle.plan_rule.specs.declared.literal.Literal.{Literal}
 use Rattle.plan_rule.specs.declared.job.Job.{Job}
@@ -32,7 +33,7 @@ use Rattle.branch_kernel.specs.Shows.{IsAnswered, IsShown, IsHandled, AreCited}
 use Rattle.branch_kernel.specs.Growth.{Grows, IsReady, Runs}
 use Rattle.branch_kernel.specs.Written.{IsWritten, IsBranchWritten}
 use Rattle.branch_kernel.proofs.RivalLaws.{beats_tie, beats_leaf}
-use Rattle.branch_kernel.proofs.GrowthLaws.{slice_get-last, grows_self, grows_later, grows_falls, grows_onto, grows_add, grows_store, handled_base, cited_later, cited_from, cited_append, cited_none, branch_steps, branch_answers, covered_cites, fit_answers, energy_answers, rival_relied, stored_later}
+use Rattle.branch_kernel.proofs.GrowthLaws.{grows_self, grows_later, grows_falls, grows_onto, grows_add, grows_store, handled_base, cited_later, cited_from, cited_append, cited_none, branch_steps, branch_answers, covered_cites, fit_answers, energy_answers, rival_relied, stored_later}
 use Rattle.branch_kernel.proofs.WithLaws.{exact_base, with_box, in_range_below, child_open}
 use Rattle.branch_kernel.proofs.CoverLaws.{covers_self}
 
@@ -173,7 +174,7 @@ branch_done c s bar best log new store tie number side cites items b lo hi last 
         record_is = Branch b lo hi side cites;
         new = (let (added, f) = g.more in let n = length-append s.log added in let m = ap length f in omega arith);
         at = subst (λ k. slice_get new k ≡ Some (Branch b lo hi side cites)) (sym at)
-            (subst (λ new. slice_get new (length log) ≡ Some (Branch b lo hi side cites)) (sym grown) (slice_get-last log (Branch b lo hi side cites)));
+            (subst (λ new. slice_get new (length log) ≡ Some (Branch b lo hi side cites)) (sym grown) (get_last log (Branch b lo hi side cites)));
         result = refl;
         part_is = node_is_box c side b lo hi node;
       },
@@ -258,7 +259,7 @@ bound_shown c bar bar' best log new store tie number part r fits falls tagged is
       subst (λ k. IsShown c start (record { bar = bar'; best = best; log = new; store = store }) tie k part) (sym at)
           (subst (λ new. IsShown c start (record { bar = bar'; best = best; log = new; store = store }) tie (length log) part) (sym grown)
           (shown_of c start (record { bar = bar'; best = best; log = log ++ r ∷ []; store = store }) tie (length log) part part r
-          (slice_get-last log r) e is answer (covers_self c part))),
+          (get_last log r) e is answer (covers_self c part))),
     )
 
 -- the record of a box that its fit beats
@@ -288,10 +289,6 @@ energy_shown c bar bar' seen best log new store tie number from to part r known 
     let (steps, answer) = energy_answers c start now tie from to part part r (omega arith) (known.energy part from to) is order day energy
     (subst (λ bar. Beats c bar (relied tie best) part r) e beats) (covers_self c part) in
     bound_shown c bar bar' best log new store tie number part (Energy from to part) fits falls tagged is refl steps tt answer written
-
-pub ok_weaker : {T E : Type 0} (r : Result T E) (P Q : T → Type 0) → ((x : T) → P x → Q x) → IfOk r P → IfOk r Q
-ok_weaker (Ok x) P Q f h = f x h
-ok_weaker (Err e) P Q f h = tt
 
 -- where a step of a search was ready, the next one is
 pub ready_later : (c : Choices) (job : Job) (s s' : State) → IsReady c job s → Runs c job s s' → IsReady c job s'

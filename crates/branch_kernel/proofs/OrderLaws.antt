@@ -1,9 +1,8 @@
 -- Citations in ascending order.
 use Rattle.std.proofs.Common.{◌≡◌, ℕ, suc, ◌+◌, ◌<◌, ◌≤◌, ◌^◌, List, [], ◌∷◌, length, get_or, arith, subst}
 use Rattle.std.specs.List.{All, AllByRecursion}
-use Rattle.std.specs.List.Sorted.{IsStrictlyIncreasing, IsPermutation}
-use Rattle.std.proofs.lemmas.List.Elements.{All-head, All-tail, All-contains, All-contains_itself}
-use Rattle.std.proofs.lemmas.List.Sorted.{Contains-permutation, IsPermutation-sym}
+use Rattle.std.specs.List.Sorted.{IsStrictlyIncreasing}
+use Rattle.std.proofs.lemmas.List.Elements.{All-head, All-tail}
 use Rattle.refutation_log.specs.Citations.{Ascend, AreCites}
 
 by_recursion : (P : ℕ → Type 0) (xs : List ℕ) → All P xs → AllByRecursion P xs
@@ -20,7 +19,3 @@ ascend n (x ∷ xs) first rises =
 
 pub cites_from : (xs : List ℕ) → IsStrictlyIncreasing xs → All (λ k. k < 10 ^ 18) xs → AreCites xs
 cites_from xs rises few = (ascend 0 xs (λ some. omega arith) rises, by_recursion (λ k. k < 10 ^ 18) xs few)
-
-pub All-permuted : {X : Type 0} (P : X → Type 0) (xs ys : List X) → IsPermutation xs ys → All P xs → All P ys
-All-permuted P xs ys moved h k d l =
-    All-contains P xs (get_or ys k d) h (Contains-permutation ys xs (get_or ys k d) (IsPermutation-sym xs ys moved) (All-contains_itself ys k d l))

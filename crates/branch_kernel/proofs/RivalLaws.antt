@@ -1,62 +1,20 @@
 -- What holds of the rivals of a bar and a best, and when a bound beats them all.
-use Rattle.std.proofs.Common.{◌≡◌, ℕ, zero, suc, ◌+◌, ◌-◌, ◌*◌, ◌/◌, ◌^◌, ◌<◌, ◌≤◌, List, [], ◌∷◌, length, Option, Some, None, ◌⊎◌, refl, sym, ap, ◌∙◌, subst, inl, inr, arith, Bool, true, false}
+use Rattle.std.proofs.Common.{◌≡◌, ℕ, suc, ◌+◌, ◌-◌, ◌*◌, ◌/◌, ◌^◌, ◌<◌, ◌≤◌, List, [], ◌∷◌, Option, Some, None, ◌⊎◌, refl, sym, ap, ◌∙◌, subst, inl, inr, arith, Bool, true, false}
 use Rattle.std.specs.Prelude.{◌==◌, if◌then◌else◌}
 use Rattle.std.specs.List.{Any}
 use Rattle.std.proofs.lemmas.Bool.{cases_lt, cases_order, eqb-true}
 use Rattle.std.proofs.lemmas.Option.{none-some, same_Some}
-use Rattle.std.proofs.lemmas.List.{get_or_past}
-use Rattle.std.proofs.lemmas.List.Elements.{All-contains}
 use Rattle.plan_rule.specs.declared.literal.Literal.{Literal}
 use Rattle.plan_rule.specs.Choices.{Choices, blocks}
 use Rattle.plan_rule.specs.Plans.{code_of, IsPlan, IsFeasible, total, IsLexLess, IsBefore, IsNotBefore}
 use Rattle.plan_rule.specs.Boxes.{Holds, HasExact, exact_code}
 use Rattle.plan_rule.specs.Bounds.{Refutes, IsBehind}
 use Rattle.plan_rule.specs.Paths.{path, key, IsAboveBar}
-use Rattle.plan_rule.proofs.BoundLaws.{refuted}
+use Rattle.plan_rule.proofs.BoundLaws.{refuted, code_past, above_code}
 use Rattle.plan_rule.proofs.BarLaws.{FitsBound, refutes_within, key_above}
-use Rattle.plan_rule.proofs.OrderLaws.{before_cases, before_trans}
+use Rattle.plan_rule.proofs.OrderLaws.{before_cases, before_trans, lex_cases}
 use Rattle.plan_rule.proofs.PathLaws.{path-less, path-below}
 use Rattle.branch_kernel.specs.Rivals.{IsNotAfter, IsRival, IsSettled, IsNoWorse, IsLater, Beats}
-
-lex_same : (c d : ℕ) (p q : List ℕ) (place : ℕ) → c ≡ d → ((b : ℕ) → b < place → code_of p b ≡ code_of q b)
-    → (b : ℕ) → b < suc place → code_of (c ∷ p) b ≡ code_of (d ∷ q) b
-lex_same c d p q place e same zero l = e
-lex_same c d p q place e same (suc b) l = same b (omega arith)
-
--- one element more at the front of both
-lex_deeper : (c d : ℕ) (p q : List ℕ) → c ≡ d → IsLexLess p q → IsLexLess (c ∷ p) (d ∷ q)
-lex_deeper c d p q e l = record { place = suc l.place; same = lex_same c d p q l.place e l.same; less = l.less }
-
--- of two lists of one length, they are equal or one is less
-lex_cases : (p q : List ℕ) → length p ≡ length q → (p ≡ q) ⊎ (IsLexLess p q ⊎ IsLexLess q p)
-lex_cases [] [] e = inl refl
-lex_cases [] (d ∷ q) e = absurd (omega arith)
-lex_cases (c ∷ p) [] e = absurd (omega arith)
-lex_cases (c ∷ p) (d ∷ q) e = elim (cases_order c d) [
-  | inl same ↦ elim (lex_cases p q (omega arith)) [
-    | inl rest ↦ inl (cc)
-    | inr less ↦ elim less [
-      | inl l ↦ inr (inl (lex_deeper c d p q same l))
-      | inr l ↦ inr (inr (lex_deeper d c q p (sym same) l))
-    ]
-  ]
-  | inr differ ↦ elim differ [
-    | inl l ↦ inr (inl (record { place = 0; same = λ b k. absurd (omega arith); less = l }))
-    | inr l ↦ inr (inr (record { place = 0; same = λ b k. absurd (omega arith); less = l }))
-  ]
-]
-
--- past its end a plan has the code 0
-code_past : (c : Choices) (p : List ℕ) (b : ℕ) → IsPlan c p → blocks c ≤ b → code_of p b ≡ 0
-code_past c p b h l = get_or_past p b 0 (let e = h.one_each in omega arith)
-
--- a plan of a box has a code above one that is below the box's literal
-above_code : (box : List Literal) (q : List ℕ) (j d : ℕ) → Holds box q → Any (λ l. (l.block ≡ j) × (d < l.lo)) box → d < code_of q j
-above_code box q j d h (k, l, within, is, (at, above)) =
-    let two : (l.lo ≤ code_of q l.block) × (code_of q l.block < l.hi) =
-    All-contains (λ l. (l.lo ≤ code_of q l.block) × (code_of q l.block < l.hi)) box l h (k, within, is) in
-    let e : code_of q l.block ≡ code_of q j = ap (code_of q) at in
-    omega (arith, two.0)
 
 -- later is in order
 pub later_self : (c : Choices) (bar : ℕ) (best : Option (List ℕ)) → IsLater c bar best bar best

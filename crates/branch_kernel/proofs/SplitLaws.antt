@@ -5,21 +5,25 @@ use Rattle.std.specs.List.{All, Contains, filter}
 use Rattle.std.proofs.lemmas.Bool.{cases_lt, cases_order, eq-eqb, ne_eqb, true≢false, false≢true}
 use Rattle.std.proofs.lemmas.Option.{none-some}
 use Rattle.std.proofs.lemmas.List.{get_or_append_left}
-use Rattle.std.proofs.lemmas.List.Elements.{All-contains, All-contains_itself, All-filter, All-head, All-tail, All-weaker}
+use Rattle.std.proofs.lemmas.List.Elements.{All-contains, All-contains_itself, All-filter, All-weaker}
 use Rattle.common_lists.specs.Each.{sum_below}
+use Rattle.common_lists.proofs.EachLaws.{sum-le}
+use Rattle.common_lists.proofs.ListLaws.{if_true, contains_filter}
 use Rattle.plan_rule.specs.declared.literal.Literal.{Literal}
 use Rattle.plan_rule.specs.declared.job.Job.{Job}
 use Rattle.plan_rule.specs.Choices.{Choices, blocks, count}
 use Rattle.plan_rule.specs.Plans.{code_of, IsPlan}
 use Rattle.plan_rule.specs.Boxes.{AreLiterals, IsAscending, IsBox, IsLiteral, Holds, LeavesFree, HasExact, exact_code, exact, with_literal}
 use Rattle.plan_rule.proofs.BoxLaws.{HoldsCode}
-use Rattle.plan_rule.proofs.BehindLaws.{one_literal}
+use Rattle.plan_rule.proofs.BehindLaws.{one_literal, exact_has}
+use Rattle.plan_rule.proofs.ExactLaws.{nothing_exact}
+use Rattle.plan_rule.proofs.WithLaws.{with_self}
 use Rattle.refutation_log.specs.Steps.{IsRange, result_of}
 use Rattle.branch_kernel.specs.States.{State}
 use Rattle.branch_kernel.specs.Boxes.{IsRangeOn, IsWholePlan, HasExactAll, Clashes, kept, others, node_box, inexact, free_mark}
 use Rattle.branch_kernel.specs.Nodes.{IsOpenBox, IsNode}
 use Rattle.branch_kernel.specs.Shows.{IsShown}
-use Rattle.branch_kernel.proofs.WithLaws.{Rises, rises_from, rises_to, rises_filter, exact_of_literal, exact_contains, contains_filter, contains_with, with_self, with_rises, with_all, passed, whole_range, if_true, if_false, place_of}
+use Rattle.branch_kernel.proofs.WithLaws.{Rises, rises_from, rises_to, rises_filter, exact_of_literal, contains_with, with_rises, with_all, passed, whole_range, place_of}
 use Rattle.branch_kernel.proofs.CoverLaws.{covers_more}
 use Rattle.branch_kernel.proofs.DropLaws.{kept_box, kept_clear, kept_has_exact, kept_inside}
 
@@ -136,28 +140,19 @@ mark_le None (Some d) h = omega arith
 mark_le (Some d) None h = absurd (none-some d (h d refl))
 mark_le (Some d) (Some e) h = omega arith
 
-sum_le : (n : ℕ) (f g : ℕ → ℕ) → ((b : ℕ) → b < n → f b ≤ g b) → sum_below n f ≤ sum_below n g
-sum_le zero f g h = omega arith
-sum_le (suc n) f g h = let a = sum_le n f g (λ b l. h b (omega arith)) in let b = h n (omega arith) in omega arith
-
 sum_less : (n b : ℕ) (f g : ℕ → ℕ) → b < n → ((x : ℕ) → x < n → f x ≤ g x) → f b < g b → sum_below n f < sum_below n g
 sum_less zero b f g l h less = absurd (omega arith)
 sum_less (suc n) b f g l h less = elim (cases_lt b n) [
   | inl below ↦ let a = sum_less n b f g below (λ x m. h x (omega arith)) less in let e = h n (omega arith) in omega arith
   | inr last ↦
-      let a = sum_le n f g (λ x m. h x (omega arith)) in
+      let a = sum-le n f g (λ x m. h x (omega arith)) in
       let e : b ≡ n = omega arith in
       let w : f n < g n = subst (λ x. f x < g x) e less in omega arith
 ]
 
 -- where what is exact in one box is so in another, no more blocks of the other are not exact
 pub inexact_le : (c : Choices) (box box' : List Literal) → ((x d : ℕ) → HasExact box x d → HasExact box' x d) → inexact c box' ≤ inexact c box
-inexact_le c box box' h = sum_le (blocks c) _ _ (λ x l. mark_le (exact_code box x) (exact_code box' x) (h x))
-
-pub free_inexact : (box : List Literal) (b : ℕ) → LeavesFree box b → exact_code box b ≡ None
-free_inexact [] b free = refl
-free_inexact (l ∷ box) b free =
-    if_false (l.block == b) _ _ (ne_eqb l.block b (All-head (λ l. l.block ≢ b) l box free)) ∙ free_inexact box b (All-tail (λ l. l.block ≢ b) l box free)
+inexact_le c box box' h = sum-le (blocks c) _ _ (λ x l. mark_le (exact_code box x) (exact_code box' x) (h x))
 
 -- what is left without a block that was not exact has as many blocks that are not
 pub split_inexact : (c : Choices) (part side : List Literal) (b : ℕ) → IsAscending part → exact_code part b ≡ None → side ≡ kept (others b) part → inexact c side ≤ inexact c part
@@ -176,13 +171,13 @@ child_inexact c side child b code up exists free e = subst (λ child. inexact c 
 
     stays : (x d : ℕ) → HasExact side x d → HasExact (with_literal side (exact b code)) x d
     stays x d exacts = exact_of_literal (with_literal side (exact b code)) (exact x d) r refl
-        (All-contains (Contains (with_literal side (exact b code))) side (exact x d) (contains_with side (exact b code) free) (exact_contains side x d exacts))
+        (All-contains (Contains (with_literal side (exact b code))) side (exact x d) (contains_with side (exact b code) free) (exact_has side x d exacts))
 
     here : HasExact (with_literal side (exact b code)) b code
     here = exact_of_literal (with_literal side (exact b code)) (exact b code) r refl (with_self side (exact b code))
 
     less : free_mark (exact_code (with_literal side (exact b code)) b) < free_mark (exact_code side b)
-    less = let e = ap free_mark here in let f = ap free_mark (free_inexact side b free) in omega arith
+    less = let e = ap free_mark here in let f = ap free_mark (nothing_exact side b free) in omega arith
 
 -- the literals before, the literal, and those after
 pub in_place : (none before mid after first second side : List Literal) (l : Literal) → none ≡ [] → first ≡ side → before ≡ none ++ filter (λ m. nat_lt m.block l.block) first
@@ -198,9 +193,9 @@ in_place none before mid after first second side l e f g h i j =
 pub range_has_exact : (c : Choices) (part : List Literal) (b d : ℕ) (l : Literal) → IsAscending part → IsRangeOn c part b l → HasExact part b d → l.lo ≡ d
 range_has_exact c part b d l up (at, range) exacts = elim range [
   | inl here ↦
-      let (i, place) = place_of part (exact b d) (exact_contains part b d exacts) in
+      let (i, place) = place_of part (exact b d) (exact_has part b d exacts) in
       ap (λ (l : Literal). l.lo) (one_literal part i l (exact b d) up here place at)
-  | inr free ↦ absurd (none-some d (sym (free_inexact part b free.0) ∙ exacts))
+  | inr free ↦ absurd (none-some d (sym (nothing_exact part b free.0) ∙ exacts))
 ]
 
 -- one code more
@@ -231,7 +226,7 @@ exact_more c part list new n l up whole exists size exacts on e =
 pub whole_plan : (c : Choices) (part : List Literal) (list : List ℕ) → IsBox c part → length list ≡ blocks c → ((b : ℕ) → b < blocks c → HasExact part b (code_of list b)) → IsPlan c list
 whole_plan c part list is size exacts = record {
   one_each = size;
-  in_range = λ b l. let m : IsLiteral c (exact b (code_of list b)) = All-contains (IsLiteral c) part (exact b (code_of list b)) is.each (exact_contains part b (code_of list b) (exacts b l)) in let h = m.codes in omega arith;
+  in_range = λ b l. let m : IsLiteral c (exact b (code_of list b)) = All-contains (IsLiteral c) part (exact b (code_of list b)) is.each (exact_has part b (code_of list b) (exacts b l)) in let h = m.codes in omega arith;
 }
 
 -- an exact literal that the box has
@@ -245,7 +240,7 @@ exact_in part l i d up within at one =
 -- no exact literal clashes with the code
 pub no_clash : (c : Choices) (part : List Literal) (b code : ℕ) → All (λ m. m.hi ≡ m.lo + 1 → c.Clash m.block m.lo b code → ⊥) part → Clashes c part b code → ⊥
 no_clash c part b code none (a, d, exacts, clash) =
-    All-contains (λ m. m.hi ≡ m.lo + 1 → c.Clash m.block m.lo b code → ⊥) part (exact a d) none (exact_contains part a d exacts) refl clash
+    All-contains (λ m. m.hi ≡ m.lo + 1 → c.Clash m.block m.lo b code → ⊥) part (exact a d) none (exact_has part a d exacts) refl clash
 
 pub exact_found : (items side : List Literal) (l : Literal) (i : ℕ) (d : Literal) → items ≡ side → IsAscending items → i < length items → get_or items i d ≡ l → l ≡ exact l.block l.lo
     → HasExact side l.block l.lo
@@ -262,5 +257,5 @@ exact_holds c box q is exacts k d w = go (get_or box k d) (All-contains_itself b
     go m inside =
         let exists : m.block < blocks c = let x = All-contains (IsLiteral c) box m is.each inside in x.block in
         let (i, place) = place_of box m inside in
-        let e : exact m.block (code_of q m.block) ≡ m = one_literal box i (exact m.block (code_of q m.block)) m is.ascending (exact_contains box m.block (code_of q m.block) (exacts m.block exists)) place refl in
+        let e : exact m.block (code_of q m.block) ≡ m = one_literal box i (exact m.block (code_of q m.block)) m is.ascending (exact_has box m.block (code_of q m.block) (exacts m.block exists)) place refl in
         subst (HoldsCode q) e (omega arith, omega arith)

@@ -5,6 +5,7 @@ use Rattle.std.specs.List.{All, Contains}
 use Rattle.std.proofs.lemmas.List.Elements.{All-contains_itself, Contains-append_left, Contains-append_right}
 use Rattle.std.proofs.lemmas.List.Elements.{All-contains}
 use Rattle.std.proofs.lemmas.Option.{get_or_from_slice_get}
+use Rattle.plan_rule.proofs.BehindLaws.{exact_has}
 use Rattle.branch_kernel.proofs.GrowthLaws.{handled_later, handled_from, grows_self, grows_onto}
 use Rattle.std.proofs.lemmas.Bool.{cases_order, false≢true}
 use Rattle.branch_kernel.proofs.NodeLaws.{or_first, or_second, cited_once_more}
@@ -22,7 +23,7 @@ use Rattle.branch_kernel.specs.Marks.{MarksAll}
 use Rattle.branch_kernel.specs.Nodes.{IsNode, IsOpenBox}
 use Rattle.branch_kernel.specs.Shows.{AreCited, IsHandled, IsHandledBy, IsShown}
 use Rattle.branch_kernel.specs.Growth.{Grows}
-use Rattle.branch_kernel.proofs.WithLaws.{with_box, with_rises, with_contains, contains_with, rises_from, exact_of_literal, exact_contains}
+use Rattle.branch_kernel.proofs.WithLaws.{with_box, with_rises, with_contains, contains_with, rises_from, exact_of_literal}
 use Rattle.branch_kernel.proofs.CoverLaws.{covers_narrow, covers_jump}
 use Rattle.branch_kernel.proofs.DropLaws.{child_handles, marks_box}
 use Rattle.branch_kernel.proofs.SplitLaws.{shown_inside, inexact_le}
@@ -35,7 +36,7 @@ range_clear c side l is more clear = record {
 }
   where
     less : (x y : ℕ) → HasExact (with_literal side l) x y → HasExact side x y
-    less x y exacts = elim (with_contains side l (exact x y) (exact_contains (with_literal side l) x y exacts)) [
+    less x y exacts = elim (with_contains side l (exact x y) (exact_has (with_literal side l) x y exacts)) [
       | inl same ↦ (let f = ap (λ (m : Literal). m.lo) same in let g = ap (λ (m : Literal). m.hi) same in absurd (omega arith))
       | inr inside ↦ exact_of_literal side (exact x y) (rises_from side is.ascending) refl inside
     ]
@@ -84,7 +85,7 @@ range_inexact side l up free more = go (exact_code (with_literal side l) l.block
   where
     go : (o : Option ℕ) → exact_code (with_literal side l) l.block ≡ o → o ≡ None
     go None e = refl
-    go (Some d) e = elim (with_contains side l (exact l.block d) (exact_contains (with_literal side l) l.block d e)) [
+    go (Some d) e = elim (with_contains side l (exact l.block d) (exact_has (with_literal side l) l.block d e)) [
       | inl same ↦ (let f = ap (λ (m : Literal). m.lo) same in let g = ap (λ (m : Literal). m.hi) same in absurd (omega arith))
       | inr inside ↦ absurd (All-contains (λ m. m.block ≢ l.block) side (exact l.block d) free inside refl)
     ]
@@ -93,7 +94,7 @@ range_inexact side l up free more = go (exact_code (with_literal side l) l.block
 pub range_fewer : (c : Choices) (side part : List Literal) (l : Literal) → IsAscending side → LeavesFree side l.block → part ≡ with_literal side l → inexact c part ≤ inexact c side
 range_fewer c side part l up free e = subst (λ part. inexact c part ≤ inexact c side) (sym e)
     (inexact_le c side (with_literal side l) (λ x d exacts. exact_of_literal (with_literal side l) (exact x d) (with_rises side l (rises_from side up)) refl
-    (All-contains (Contains (with_literal side l)) side (exact x d) (contains_with side l free) (exact_contains side x d exacts))))
+    (All-contains (Contains (with_literal side l)) side (exact x d) (contains_with side l free) (exact_has side x d exacts))))
 
 -- a side with part of a node's range is an open box
 pub part_open : (c : Choices) (job : Job) (side part : List Literal) (l : Literal) → IsNode c job side l.block l.lo l.hi → l.lo + 1 < l.hi → (0 < l.lo) ⊎ (l.hi < count c l.block) → part ≡ with_literal side l → IsOpenBox c job part

@@ -3,14 +3,16 @@ use Rattle.std.proofs.Common.{◌≡◌, ◌≢◌, ℕ, zero, suc, ◌+◌, ◌
 use Rattle.std.specs.Prelude.{nat_lt, slice_get, ◌==◌, if◌then◌else◌}
 use Rattle.std.specs.List.{All, Contains, filter}
 use Rattle.std.proofs.lemmas.List.Elements.{All-contains, All-filter, All-append, All-cons, All-head, All-tail, All-nil, All-weaker, All-contains_itself, Contains-append_left, Contains-append_right}
-use Rattle.std.proofs.lemmas.Bool.{cases_lt, cases_order, lt-ltb, ltb-true, eq-eqb, ne_eqb, false≢true, true≢false}
+use Rattle.std.proofs.lemmas.Bool.{cases_lt, cases_order, lt-ltb, ltb-true, eq-eqb, ne_eqb, true≢false}
 use Rattle.std.proofs.lemmas.Option.{none-some, same_Some, slice_get_within, slice_get-get_or, get_or_from_slice_get}
+use Rattle.common_lists.proofs.ListLaws.{if_true, contains_filter}
 use Rattle.plan_rule.specs.declared.literal.Literal.{Literal}
 use Rattle.plan_rule.specs.declared.job.Job.{Job}
 use Rattle.common_lists.specs.Each.{sum_below}
 use Rattle.plan_rule.specs.Bounds.{IsBase, IsSumOfLeast, MayTake}
 use Rattle.plan_rule.proofs.BoundLaws.{exact-all}
 use Rattle.plan_rule.proofs.BoxLaws.{held_without}
+use Rattle.plan_rule.proofs.BehindLaws.{exact_has}
 use Rattle.refutation_log.specs.Steps.{IsRange}
 use Rattle.plan_rule.specs.Choices.{Choices, MeetsSome, blocks, count}
 use Rattle.plan_rule.specs.Plans.{code_of, IsPlan, IsFeasible, total}
@@ -95,10 +97,6 @@ with_box c box l h k = record {
   each = with_all (IsLiteral c) box l h.each k;
 }
 
-pub if_true : {A : Type 0} (b : Bool) (x y : A) → b ≡ true → (if b then x else y) ≡ x
-if_true true x y e = refl
-if_true false x y e = absurd (false≢true e)
-
 pub if_false : {A : Type 0} (b : Bool) (x y : A) → b ≡ false → (if b then x else y) ≡ y
 if_false true x y e = absurd (true≢false e)
 if_false false x y e = refl
@@ -115,9 +113,6 @@ exact_of_literal (x ∷ box) m r one (suc k, l, e) =
     let below : x.block < m.block = All-contains (λ m. x.block < m.block) box m r.0 inside in
     if_false (x.block == m.block) _ _ (ne_eqb x.block m.block (λ e. absurd (omega arith))) ∙ exact_of_literal box m r.1 one inside
 
-pub exact_contains : (box : List Literal) (b d : ℕ) → HasExact box b d → Contains box (exact b d)
-exact_contains box b d e = exact-all (Contains box) box b d (All-contains_itself box) e
-
 -- a literal of a box with a literal more
 pub with_contains : (box : List Literal) (l m : Literal) → Contains (with_literal box l) m → (m ≡ l) ⊎ Contains box m
 with_contains box l m h =
@@ -126,7 +121,7 @@ with_contains box l m h =
 
 -- which codes are exact in a box with an exact literal more
 pub with_has_exact : (box : List Literal) (b code a d : ℕ) → Rises box → HasExact (with_literal box (exact b code)) a d → ((a ≡ b) × (d ≡ code)) ⊎ HasExact box a d
-with_has_exact box b code a d r h = elim (with_contains box (exact b code) (exact a d) (exact_contains (with_literal box (exact b code)) a d h)) [
+with_has_exact box b code a d r h = elim (with_contains box (exact b code) (exact a d) (exact_has (with_literal box (exact b code)) a d h)) [
   | inl e ↦ inl (ap (λ (l : Literal). l.block) e, ap (λ (l : Literal). l.lo) e)
   | inr i ↦ inr (exact_of_literal box (exact a d) r refl i)
 ]
@@ -152,19 +147,6 @@ with_clear c box b code mutual_clash r clear none free = record { apart = apart;
       | inl p ↦ free (subst (MeetsSome c b) p.1 (subst (λ x. MeetsSome c x d) p.0 met))
       | inr fx' ↦ clear.unmet x d fx' met
     ]
-
-pub contains_filter : {X : Type 0} (p : X → Bool) (xs : List X) (x : X) → p x ≡ true → Contains xs x → Contains (filter p xs) x
-contains_filter p [] x t (k, l, e) = absurd (omega arith)
-contains_filter p (y ∷ xs) x t (zero, l, e) = first (p y) y (filter p xs) x (ap p e ∙ t) e
-  where
-    first : {X : Type 0} (b : Bool) (y : X) (rest : List X) (x : X) → b ≡ true → y ≡ x → Contains (cond b (y ∷ rest) rest) x
-    first true y rest x t e = (0, omega arith, e)
-    first false y rest x t e = absurd (false≢true t)
-contains_filter p (y ∷ xs) x t (suc k, l, e) = later (p y) y (filter p xs) x (contains_filter p xs x t (k, omega arith, e))
-  where
-    later : {X : Type 0} (b : Bool) (y : X) (rest : List X) (x : X) → Contains rest x → Contains (cond b (y ∷ rest) rest) x
-    later true y rest x (k, l, e) = (suc k, omega arith, e)
-    later false y rest x h = h
 
 -- a box contains it with a literal more
 pub contains_with : (box : List Literal) (l : Literal) → LeavesFree box l.block → All (Contains (with_literal box l)) box
@@ -236,8 +218,3 @@ exact_base c box q plan exacts = go (blocks c) (omega arith)
           ),
           refl,
         )
-
--- the literal itself
-pub with_self : (box : List Literal) (l : Literal) → Contains (with_literal box l) l
-with_self box l =
-    Contains-append_right (filter (λ m. nat_lt m.block l.block) box) (l ∷ filter (λ m. nat_lt l.block m.block) box) l (0, omega arith, refl)

@@ -1,10 +1,9 @@
 -- What the steps of a search tell of one another.
-use Rattle.std.proofs.Common.{◌≡◌, ℕ, ◌+◌, ◌^◌, ◌<◌, ◌≤◌, ◌++◌, ◌⊎◌, List, Option, Some, None, Bool, true, false, refl, sym, subst, inl, inr, arith, length, get_or}
-use Rattle.std.specs.Prelude.{MatchOption, ◌||◌, ◌==◌, ◌&&◌, if◌then◌else◌}
+use Rattle.std.proofs.Common.{◌≡◌, ℕ, ◌+◌, ◌^◌, ◌<◌, ◌≤◌, ◌++◌, ◌⊎◌, List, Bool, true, false, refl, sym, subst, inl, inr, arith, length, get_or}
+use Rattle.std.specs.Prelude.{◌||◌, ◌==◌, ◌&&◌, if◌then◌else◌}
 use Rattle.std.specs.List.{All, AllWithin, Contains}
 use Rattle.std.proofs.lemmas.List.Elements.{AllWithin-more, at_read}
 use Rattle.std.proofs.lemmas.Bool.{ne_eqb}
-use Rattle.std.proofs.lemmas.Option.{none-some, same_Some}
 use Rattle.plan_rule.specs.declared.literal.Literal.{Literal}
 use Rattle.plan_rule.specs.declared.job.Job.{Job}
 use Rattle.plan_rule.specs.Choices.{Choices, count}
@@ -20,10 +19,6 @@ use Rattle.branch_kernel.specs.Shows.{IsHandledBy}
 use Rattle.branch_kernel.specs.Covers.{CoversCode, IsCoverage}
 use Rattle.branch_kernel.proofs.GrowthLaws.{cited_from, handled_from}
 use Rattle.branch_kernel.proofs.WalkLaws.{settle_more}
-
-pub match_some : {T : Type 0} (o : Option T) (A : Type 0) (F : T → Type 0) (x : T) → MatchOption o A F → o ≡ Some x → F x
-match_some None A F x h e = absurd (none-some x e)
-match_some (Some y) A F x h e = subst F (same_Some y x e) h
 
 -- a code that is not covered leaves the side with the code open
 pub opened : (c : Choices) (job : Job) (start now : State) (side : List Literal) (needs : ℕ → Bool) (b code : ℕ) (r : Coverage) (child : List Literal)

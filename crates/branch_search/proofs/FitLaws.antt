@@ -2,6 +2,7 @@
 use Rattle.std.proofs.Common.{◌≡◌, ℕ, ◌+◌, ◌≤◌, List, [], ◌∷◌, Option, Some, None, Bool, true, refl, sym, ap, subst, arith, length}
 use Rattle.std.specs.Prelude.{◌<◌, Ok, All, Contains, slice_get}
 use Rattle.std.proofs.lemmas.List.Elements.{All-weaker}
+use Rattle.common_lists.proofs.ListLaws.{get_last}
 use Rattle.plan_rule.specs.declared.literal.Literal.{Literal}
 use Rattle.plan_rule.specs.declared.job.Job.{Job}
 use Rattle.plan_rule.specs.Choices.{Choices, blocks}
@@ -19,7 +20,6 @@ use Rattle.branch_kernel.specs.Shows.{IsShown}
 use Rattle.branch_kernel.specs.Written.{IsWritten}
 use Rattle.branch_kernel.specs.Stored.{IsFresh, IsKept}
 use Rattle.branch_kernel.proofs.CoverLaws.{exist-box}
-use Rattle.branch_kernel.proofs.GrowthLaws.{slice_get-last}
 use Rattle.branch_kernel.proofs.WithLaws.{rises_from}
 use Rattle.branch_kernel.proofs.DropLaws.{answered_of, kept_box, kept_fit, kept_inside}
 use Rattle.branch_kernel.proofs.SplitLaws.{shown_inside}
@@ -74,7 +74,7 @@ fit_fresh : (c : Choices) (log new : List Record) (number : ℕ) (side : List Li
 fit_fresh c log new number side is (at, grown) = record {
   record_is = Fit side;
   new = omega arith;
-  at = subst (λ k. slice_get new k ≡ Some (Fit side)) (sym at) (subst (λ new. slice_get new (length log) ≡ Some (Fit side)) (sym grown) (slice_get-last log (Fit side)));
+  at = subst (λ k. slice_get new k ≡ Some (Fit side)) (sym at) (subst (λ new. slice_get new (length log) ≡ Some (Fit side)) (sym grown) (get_last log (Fit side)));
   result = refl;
   part_is = is;
 }

@@ -1,7 +1,9 @@
 -- Bounds that beat a box and each box with more literals, and the dear codes that a base covers by them.
 use Rattle.std.proofs.Common.{◌≡◌, ◌≢◌, ℕ, zero, suc, ◌+◌, ◌/◌, ◌^◌, ◌<◌, ◌≤◌, List, [], Option, Some, None, Bool, true, false, refl, sym, subst, inl, inr, arith, get_or, length}
 use Rattle.std.specs.List.{All, Contains}
-use Rattle.std.specs.Prelude.{IfSome}
+use Rattle.common_lists.proofs.ListLaws.{contains_filter}
+use Rattle.plan_rule.proofs.WithLaws.{with_self}
+use Rattle.plan_rule.proofs.BehindLaws.{exact_has}
 use Rattle.tardiness_bounds.specs.declared.bound.Bound.{Bound}
 use Rattle.tardiness_bounds.specs.declared.bound.Bound.TheVariants.{Number}
 use Rattle.tardiness_bounds.specs.Numbers.{number}
@@ -20,8 +22,8 @@ use Rattle.branch_kernel.specs.Boxes.{kept}
 use Rattle.branch_kernel.specs.Shows.{IsHandledBy}
 use Rattle.branch_kernel.proofs.RivalLaws.{beats_later, beats_tie, later_none}
 use Rattle.branch_kernel.proofs.NodeLaws.{key_fits}
-use Rattle.branch_kernel.proofs.WithLaws.{Rises, rises_from, rises_filter, passed, with_box, with_rises, with_self, with_has_exact, contains_with, contains_filter, exact_contains, exact_of_literal, exact_literal}
-use Rattle.branch_kernel.proofs.DropLaws.{base_exists, beats_over, by_clash, kept_box, kept_free, kept_inside, side_has_exact}
+use Rattle.branch_kernel.proofs.WithLaws.{Rises, rises_from, rises_filter, passed, with_box, with_rises, with_has_exact, contains_with, exact_of_literal, exact_literal}
+use Rattle.branch_kernel.proofs.DropLaws.{base_exists, beats_over, by_clash, kept_box, kept_free, kept_inside, side_has_exact, sum_some}
 use Rattle.branch_kernel.proofs.GrowthLaws.{handled_base}
 use Rattle.branch_search.specs.Floors.{IsNoLess, BeatsFrom}
 
@@ -33,13 +35,6 @@ sum_rises May More cost (suc n) k j more (s, m, hs, ((x, may, e), least), f) (t,
     let a = sum_rises May More cost n s t (λ b x l. more b x (omega arith)) hs ht in
     let (y, is, cheap) = more n x (omega arith) may in
     let b = lowest y is in omega arith
-
-sum_some : (May : ℕ → ℕ → Type 0) (cost : ℕ → ℕ → ℕ) (n k b : ℕ) → b < n → IsSumOfLeast May cost n k → (x : ℕ) × May b x
-sum_some May cost zero k b l h = absurd (omega arith)
-sum_some May cost (suc n) k b l (s, m, hs, ((x, may, e), least), f) = elim (cases_lt b n) [
-  | inl below ↦ sum_some May cost n s b below hs
-  | inr last ↦ let g : n ≡ b = omega arith in (x, subst (λ n. May n x) g may)
-]
 
 -- and so does a bound
 bound_rises : (May More : ℕ → ℕ → Type 0) (cost : ℕ → ℕ → ℕ) (n : ℕ) (k r : Option ℕ) → ((b x : ℕ) → b < n → May b x → (y : ℕ) × More b y × (cost b y ≤ cost b x))
@@ -63,7 +58,7 @@ exact_in_more : (keep needs : ℕ → Bool) (side : List Literal) (b x a d : ℕ
 exact_in_more keep needs side b x a d rises free some exacts =
     exact_of_literal (with_literal (kept keep side) (exact b x)) (exact a d) (with_rises (kept keep side) (exact b x) (rises_filter (λ l. keep l.block) side rises)) refl
     (All-contains (Contains (with_literal (kept keep side) (exact b x))) (kept needs side) (exact a d) (kept_in keep needs side (exact b x) free some)
-    (exact_contains (kept needs side) a d exacts))
+    (exact_has (kept needs side) a d exacts))
 
 -- the base with a dearer code, and with more literals, is not below
 pub base_rises : (c : Choices) (keep needs : ℕ → Bool) (side : List Literal) (b x y : ℕ) (k r : Option ℕ) → IsBox c side → LeavesFree side b → y < count c b
@@ -83,7 +78,7 @@ base_rises c keep needs side b x y k r is free exists some cheap base base' =
     lone d exacts = elim (with_has_exact (kept needs side) b y b d (rises_filter (λ l. needs l.block) side rises) exacts) [
       | inl same ↦ sym same.1
       | inr inside ↦ absurd (All-contains (λ l. l.block ≢ b) side (exact b d) free
-          (All-contains (Contains side) (kept needs side) (exact b d) (kept_inside needs side) (exact_contains (kept needs side) b d inside)) refl)
+          (All-contains (Contains side) (kept needs side) (exact b d) (kept_inside needs side) (exact_has (kept needs side) b d inside)) refl)
     ]
 
     more : (a z : ℕ) → a < blocks c → MayTake c (with_literal (kept keep side) (exact b x)) a z
@@ -120,7 +115,7 @@ behind_more c part box m is inside behind = elim behind [
   where
     move : (b d : ℕ) → HasExact part b d → HasExact box b d
     move b d exacts = exact_of_literal box (exact b d) (rises_from box is.ascending) refl
-        (All-contains (Contains box) part (exact b d) inside (exact_contains part b d exacts))
+        (All-contains (Contains box) part (exact b d) inside (exact_has part b d exacts))
 
 -- a bound that ties with the best, at a box behind it, beats from there on
 pub tie_from : (c : Choices) (bar : ℕ) (m : List ℕ) (part : List Literal) → AreKnown c → bar < 2 ^ 64 → IsHeld c bar (Some m) → IsBehind c part m
@@ -163,7 +158,7 @@ pub kept_clash : (c : Choices) (start s : State) (side short : List Literal) (ne
 kept_clash c start s side short needs b code a d e is free block exacts clash =
     let held : HasExact (kept needs side) a d = subst (λ s. HasExact s a d) e exacts in
     by_clash c start s false side needs [] b code a d is free block
-    (All-contains (λ l. needs l.block ≡ true) (kept needs side) (exact a d) (passed (λ l. needs l.block) side) (exact_contains (kept needs side) a d held))
+    (All-contains (λ l. needs l.block ≡ true) (kept needs side) (exact a d) (passed (λ l. needs l.block) side) (exact_has (kept needs side) a d held))
     (side_has_exact needs side a d (rises_from side is.ascending) held) clash
 
 -- a code with which the base of the needed literals beats
@@ -183,7 +178,3 @@ pub short_part : (c : Choices) (side short part : List Literal) (needs : ℕ →
 short_part c side short part needs b code l e f g is block exists =
     subst (IsBox c) (sym g) (subst (λ l. IsBox c (with_literal short l)) (sym f)
     (with_box c short (exact b code) (subst (IsBox c) (sym e) (kept_box c needs side is)) (exact_literal c b code block exists)))
-
-pub some_weaker : {T : Type 0} (o : Option T) (P Q : T → Type 0) → ((x : T) → P x → Q x) → IfSome o P → IfSome o Q
-some_weaker None P Q f h = tt
-some_weaker (Some x) P Q f h = f x h

@@ -4,6 +4,7 @@ use Rattle.std.specs.Option.{IfSome}
 use Rattle.std.proofs.lemmas.List.{map-append}
 use Rattle.std.proofs.lemmas.List.Elements.{All-push, All-nil, All-cons, All-head, All-tail, All-contains, All-weaker, Contains-push, Contains-push_cases, Contains-append_left}
 use Rattle.std.proofs.lemmas.Option.{none-some, same_Some}
+use Rattle.plan_rule.proofs.SearchLaws.{before_self}
 use Rattle.branch_core.specs.declared.report.Report.{Report}
 use Rattle.branch_core.specs.Solved.{report_of}
 use Rattle.plan_rule.specs.Choices.{Choices}
@@ -17,9 +18,6 @@ use Rattle.branch_workers.specs.Last.{IsLast}
 use Rattle.branch_workers.specs.Work.{IsSound, job_of_report}
 use Rattle.branch_workers.proofs.LastLaws.{told_of}
 use Rattle.branch_workers.proofs.ReportLaws.{best_within}
-
-not_before_itself : (c : Choices) (p : List ℕ) → IsBefore c p p → ⊥
-not_before_itself c p before = elim before [ inl less ↦ (omega arith) | inr (same, lex) ↦ (let l = lex.less in omega arith) ]
 
 -- one report more is considered
 best_push : (c : Choices) (ts : List JobReport) (t : JobReport) (b old new : Option (List ℕ)) → t.best ≡ b → IsBestOf c ts old → IsConsidered c old b new → IsBestOf c (ts ++ t ∷ []) new
@@ -35,7 +33,7 @@ best_push c ts t (Some p) None new e of (n, is, better) = subst (IsBestOf c (ts 
   (t, Contains-push ts t, e),
   λ s m i f before. elim (Contains-push_cases ts t s i) [
     | inl earlier ↦ none-some m (sym (All-contains (λ (r : JobReport). r.best ≡ None) ts s of earlier) ∙ f)
-    | inr same ↦ not_before_itself c p (subst (λ m. IsBefore c m p) (sym (same_Some p m (sym e ∙ ap (λ (t : JobReport). t.best) same ∙ f))) before)
+    | inr same ↦ before_self c p (subst (λ m. IsBefore c m p) (sym (same_Some p m (sym e ∙ ap (λ (t : JobReport). t.best) same ∙ f))) before)
   ],
 )
 best_push c ts t (Some p) (Some q) new e ((r, inside, at), others) (n, is, better) = elim better [
@@ -50,7 +48,7 @@ best_push c ts t (Some p) (Some q) new e ((r, inside, at), others) (n, is, bette
     (t, Contains-push ts t, e),
     λ s m i f before. elim (Contains-push_cases ts t s i) [
       | inl earlier ↦ others s m earlier f (before_trans c m p q before first)
-      | inr same ↦ not_before_itself c p (subst (λ m. IsBefore c m p) (sym (same_Some p m (sym e ∙ ap (λ (t : JobReport). t.best) same ∙ f))) before)
+      | inr same ↦ before_self c p (subst (λ m. IsBefore c m p) (sym (same_Some p m (sym e ∙ ap (λ (t : JobReport). t.best) same ∙ f))) before)
     ],
   )
 ]

@@ -1,5 +1,5 @@
 -- From workers as they are made to settled deques.
-use Rattle.std.proofs.Common.{◌≡◌, ℕ, zero, suc, ◌+◌, ◌-◌, ◌*◌, ◌^◌, ◌<◌, ◌≤◌, List, [], ◌∷◌, ◌++◌, length, map, take, drop, set, get_or, length-set, get_or-set_other, refl, sym, ap, ◌∙◌, subst, inl, inr, arith, vec_capacity, OnOk, IfOk, Ok, Err}
+use Rattle.std.proofs.Common.{◌≡◌, ℕ, zero, suc, ◌+◌, ◌-◌, ◌*◌, ◌^◌, ◌<◌, ◌≤◌, List, [], ◌∷◌, ◌++◌, length, map, take, drop, set, get_or, length-set, get_or-set_other, refl, sym, ap, ◌∙◌, subst, inl, inr, arith, vec_capacity, OnOk, Ok, Err}
 use Rattle.std.specs.declared.result.Result.{Result}
 use Rattle.std.specs.Prelude.{if◌then◌else◌, ◌==◌}
 use Rattle.std.proofs.lemmas.Nat.{pow_pos, pow-add, mul-le}
@@ -7,6 +7,7 @@ use Rattle.std.specs.List.{sum_by, All, Contains}
 use Rattle.std.proofs.lemmas.List.Sums.{sum_by-cons, sum_by-drop_more}
 use Rattle.std.proofs.lemmas.List.Elements.{Contains-append_cases, All-append, All-head, All-tail, All-cons, All-nil, All-contains, All-contains_itself, All-weaker, Contains-get_or}
 use Rattle.atomic_table.specs.Seated.{TableId}
+use Rattle.common_lists.proofs.ListLaws.{take_own, map_length}
 use Rattle.plan_rule.specs.declared.job.Job.{Job}
 use Rattle.plan_rule.specs.Choices.{Choices}
 use Rattle.branch_core.specs.declared.report.Report.{Report}
@@ -20,7 +21,7 @@ use Rattle.branch_workers.specs.Deal.{pushed_by, unpushed, IsDealt}
 use Rattle.incumbent_word.specs.Sittings.{Place, Sitting}
 use Rattle.refutation_log.specs.declared.record.Record.{Record}
 use Rattle.plan_rule.specs.Jobs.{IsJob}
-use Rattle.branch_workers.proofs.RoundLaws.{map_length, map-set}
+use Rattle.branch_workers.proofs.RoundLaws.{map-set}
 use Rattle.branch_workers.specs.Gather.{only, held, Pile, IsHeld, IsGathering, unreached, IsReady, AreReady, popped_by, stolen_from, IsFresh, spot_of, reported_by, IsAccounted, IsHonest, IsIdleWorker, IsMadeFor, IsTold, IsReporting, owner_of, IsBalanced, AreTold}
 
 -- lists that look the same through a map look the same through what is read off it
@@ -203,10 +204,6 @@ pub all_deeper : (c : Choices) (n m : ℕ) (jobs slice : List Job) → n ≤ m �
 all_deeper c n m jobs slice l same all = subst (All (IsDealt c m)) (sym same)
     (All-weaker (IsDealt c n) (IsDealt c m) (λ j h. record { job_is = h.job_is; short = (let s = h.short in omega arith); root_or_half = h.root_or_half }) jobs all)
 
-pub if_ok : {X E : Type 0} (r : Result X E) (P Q : X → Type 0) → ((x : X) → P x → Q x) → IfOk r P → IfOk r Q
-if_ok (Ok x) P Q f h = f x h
-if_ok (Err e) P Q f h = tt
-
 weigh-append : (h : Job → ℕ) (xs ys : List Report) → sum_by h (map job_of_report (xs ++ ys)) ≡ sum_by h (map job_of_report xs) + sum_by h (map job_of_report ys)
 weigh-append h [] ys = omega arith
 weigh-append h (r ∷ xs) ys =
@@ -260,24 +257,18 @@ ready_still ws3 ws4 piles e (r, n) = (
 pub tiled : (ws : List Worker) (piles : List Pile) (all : List Report) → IsBalanced all ws piles → ((h : Job → ℕ) → pushed_by h ws ≡ popped_by h ws + stolen_from h piles) → Tile (map job_of_report all)
 tiled ws piles all b paid = tile (map job_of_report all) (λ x. let a = b x in let c = paid (has x) in omega arith)
 
-pub take_all : {X : Type 0} (n : ℕ) (xs zs : List X) → length xs ≡ n → take n (xs ++ zs) ≡ xs
-take_all zero [] zs e = refl
-take_all (suc n) [] zs e = absurd (omega arith)
-take_all zero (x ∷ xs) zs e = absurd (omega arith)
-take_all (suc n) (x ∷ xs) zs e = ap (λ l. x ∷ l) (take_all n xs zs (omega arith))
-
 pub back_ready : (ws : List Worker) (piles : List Pile) (n m : ℕ) (zs : List Worker) (qs : List Pile) → length ws ≡ n → length piles ≡ m → AreReady ws piles × (length ws ≡ length piles)
     → AreReady (take n (ws ++ zs)) (take m (piles ++ qs)) × (length (take n (ws ++ zs)) ≡ length (take m (piles ++ qs)))
 back_ready ws piles n m zs qs e f r =
-    subst (λ (l : List Worker). AreReady l (take m (piles ++ qs)) × (length l ≡ length (take m (piles ++ qs)))) (sym (take_all n ws zs e))
-    (subst (λ (l : List Pile). AreReady ws l × (length ws ≡ length l)) (sym (take_all m piles qs f)) r)
+    subst (λ (l : List Worker). AreReady l (take m (piles ++ qs)) × (length l ≡ length (take m (piles ++ qs)))) (sym (take_own n ws zs e))
+    (subst (λ (l : List Pile). AreReady ws l × (length ws ≡ length l)) (sym (take_own m piles qs f)) r)
 
 pub back_tiled : (ws : List Worker) (piles : List Pile) (n m : ℕ) (zs : List Worker) (qs : List Pile) (all : List Report) → length ws ≡ n → length piles ≡ m → IsBalanced all ws piles
     → ((h : Job → ℕ) → pushed_by h (take n (ws ++ zs)) ≡ popped_by h (take n (ws ++ zs)) + stolen_from h (take m (piles ++ qs))) → Tile (map job_of_report all)
 back_tiled ws piles n m zs qs all e f b paid =
     tiled ws piles all b (λ h.
     let a = paid h in
-    let p = ap (pushed_by h) (take_all n ws zs e) in let q = ap (popped_by h) (take_all n ws zs e) in let r = ap (stolen_from h) (take_all m piles qs f) in omega arith)
+    let p = ap (pushed_by h) (take_own n ws zs e) in let q = ap (popped_by h) (take_own n ws zs e) in let r = ap (stolen_from h) (take_own m piles qs f) in omega arith)
 
 -- one worker's work, as that of a list
 pub one_worked : {X E : Type 0} (r : Result X E) (brd : Place) (c : Choices) (split : ℕ) (ws : List Worker) (d w : Worker) → length ws ≡ 1 → All (IsFresh brd) ws
@@ -341,10 +332,10 @@ below_all c all ws seen word told joined low = All-weaker (Contains all) (λ (r 
 pub below_back : (c : Choices) (all : List Report) (ws : List Worker) (n : ℕ) (zs : List Worker) (seen : List ℕ) (word : ℕ) → length ws ≡ n → AreTold c all ws
     → ((w : Worker) (k : ℕ) → Contains (take n (ws ++ zs)) w → Contains w.seat.seen k → Contains seen k) → All (λ n. word ≤ n) seen → All (λ (r : Report). word ≤ r.seen) all
 below_back c all ws n zs seen word e told joined low =
-    below_all c all ws seen word told (λ w k i. joined w k (subst (λ (l : List Worker). Contains l w) (sym (take_all n ws zs e)) i)) low
+    below_all c all ws seen word told (λ w k i. joined w k (subst (λ (l : List Worker). Contains l w) (sym (take_own n ws zs e)) i)) low
 
 pub back_seated : (brd : Place) (ws : List Worker) (n : ℕ) (zs : List Worker) → length ws ≡ n → All (λ (w : Worker). w.seat.place ≡ brd) ws → All (λ (w : Worker). w.seat.place ≡ brd) (take n (ws ++ zs))
-back_seated brd ws n zs e all = subst (All (λ (w : Worker). w.seat.place ≡ brd)) (sym (take_all n ws zs e)) all
+back_seated brd ws n zs e all = subst (All (λ (w : Worker). w.seat.place ≡ brd)) (sym (take_own n ws zs e)) all
 
 pub pow_le : (a b : ℕ) → a ≤ b → 2 ^ a ≤ 2 ^ b
 pow_le a b l =

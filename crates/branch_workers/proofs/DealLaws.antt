@@ -4,6 +4,7 @@ use Rattle.std.specs.List.{sum_by, All}
 use Rattle.std.proofs.lemmas.List.Sums.{sum_by_push, sum_by_more, sum_by-set, sum_by-drop_more, sum_by-cons}
 use Rattle.std.proofs.lemmas.List.Elements.{All-nil, All-push, All-get_or, All-head, All-tail}
 use Rattle.std.proofs.Math.Nat.{pow-suc}
+use Rattle.common_lists.proofs.ListLaws.{get_or-default}
 use Rattle.plan_rule.specs.declared.job.Job.{Job}
 use Rattle.plan_rule.specs.Choices.{Choices}
 use Rattle.log_merge.specs.Tiles.{has, times, root}
@@ -15,7 +16,7 @@ use Rattle.branch_workers.specs.Work.{IsSplit}
 use Rattle.branch_workers.specs.Deal.{IsDealt, IsHalvedOnto, IsRound, unpushed, with_pushed, pushed_by}
 use Rattle.plan_rule.specs.Jobs.{IsJob, lower, upper}
 use Rattle.plan_rule.proofs.JobLaws.{halves_are}
-use Rattle.branch_workers.proofs.RoundLaws.{map-set, default}
+use Rattle.branch_workers.proofs.RoundLaws.{map-set}
 
 abbrev pub Part : Choices → ℕ → List Job → List Job → ℕ → Type 0
 Part c level jobs done i = All (IsDealt c (level + 1)) done × ((x : ℕ) → times x done ≡ times x (take i jobs)) × (length done ≤ 2 * i)
@@ -89,7 +90,7 @@ one_given jobs from next i old now d w job h l m at is = record {
     | inl here ↦ subst (λ (k : ℕ). length (get_or (set now i w) k e).owner.pushed ≤ length (get_or old k e).owner.pushed + 1) (sym here)
         (let a = ap (λ (w : Worker). length w.owner.pushed) (get_or-set_same now i w e l ∙ is) in
         let b = length-append (get_or now i d).owner.pushed (job ∷ []) in
-        let g : length (get_or now i d).owner.pushed ≡ length (get_or old i e).owner.pushed = ap (λ (w : Worker). length w.owner.pushed) (default now i d e l ∙ h.untouched i e (omega arith)) in omega arith)
+        let g : length (get_or now i d).owner.pushed ≡ length (get_or old i e).owner.pushed = ap (λ (w : Worker). length w.owner.pushed) (get_or-default now i d e l ∙ h.untouched i e (omega arith)) in omega arith)
     | inr other ↦
         (let a = ap (λ (w : Worker). length w.owner.pushed) (get_or-set_other now i k w e other) in
         let b = h.one k e (ne_less k i o other) in omega arith)
@@ -129,7 +130,7 @@ pub given_to : (jobs : List Job) (from next next' i : ℕ) (old now now' : List 
     → owner ≡ pushing (get_or now i d).owner (get_or jobs next e) → next' ≡ next + 1 → now' ≡ set now i (with_owner (get_or now i d) owner) → IsRound jobs from next' old now' (i + 1)
 given_to jobs from next next' i old now now' d owner e h l m is next_is now_is =
     round_is jobs from (next + 1) next' (i + 1) old (set now i (with_owner (get_or now i d) owner)) now'
-    (one_given jobs from next i old now d (with_owner (get_or now i d) owner) (get_or jobs next e) h l m (default jobs next e (get_or jobs next e) m) (ap (with_owner (get_or now i d)) is))
+    (one_given jobs from next i old now d (with_owner (get_or now i d) owner) (get_or jobs next e) h l m (get_or-default jobs next e (get_or jobs next e) m) (ap (with_owner (get_or now i d)) is))
     next_is now_is
 
 drop-all : {X : Type 0} (xs : List X) (n : ℕ) → length xs ≤ n → drop n xs ≡ []

@@ -1,16 +1,16 @@
 -- What a worker's log says.
-use Rattle.std.proofs.Common.{◌≡◌, ℕ, zero, suc, ◌+◌, ◌<◌, ◌≤◌, List, [], ◌∷◌, ◌++◌, length, Option, Some, refl, sym, ap, ◌∙◌, subst, inl, inr, arith, append_assoc, append-nil, length-append}
+use Rattle.std.proofs.Common.{◌≡◌, ℕ, zero, suc, ◌+◌, ◌≤◌, List, [], ◌∷◌, ◌++◌, length, Some, sym, ap, ◌∙◌, subst, inl, inr, arith, append_assoc, append-nil, length-append}
 use Rattle.std.specs.Prelude.{slice_get}
 use Rattle.std.specs.List.{All, Contains}
 use Rattle.std.proofs.lemmas.Bool.{cases_lt}
 use Rattle.std.proofs.lemmas.List.Elements.{All-nil, All-push, All-weaker}
 use Rattle.std.proofs.lemmas.Option.{none-some}
+use Rattle.common_lists.proofs.ListLaws.{get_before}
 use Rattle.branch_core.specs.declared.report.Report.{Report}
 use Rattle.branch_core.specs.Proper.{AreProper}
 use Rattle.plan_rule.specs.Choices.{Choices}
 use Rattle.refutation_log.specs.declared.record.Record.{Record}
 use Rattle.refutation_log.specs.Logs.{CiteEarlier}
-use Rattle.refutation_log.proofs.AppendedLaws.{get_before}
 use Rattle.branch_kernel.proofs.GrowthLaws.{slice_get-less}
 use Rattle.branch_workers.specs.Work.{HasRecord, IsGrownLog, IsLogged, IsProved}
 use Rattle.log_merge.proofs.MergeLaws.{grown_shown}

@@ -1,10 +1,11 @@
 -- The making of a crew.
-use Rattle.std.proofs.Common.{◌≡◌, ℕ, zero, suc, ◌+◌, ◌-◌, ◌*◌, ◌<◌, ◌≤◌, List, [], ◌∷◌, ◌++◌, length, map, take, set, get_or, ◌⊎◌, refl, sym, ap, ◌∙◌, subst, inl, inr, arith, length-set, length-append, get_or-set_same, get_or-set_other, vec_capacity, Bool}
+use Rattle.std.proofs.Common.{◌≡◌, ℕ, zero, suc, ◌+◌, ◌-◌, ◌*◌, ◌<◌, ◌≤◌, List, [], ◌∷◌, ◌++◌, length, take, set, get_or, ◌⊎◌, refl, sym, ap, ◌∙◌, subst, inl, inr, arith, length-set, length-append, get_or-set_same, get_or-set_other, vec_capacity, Bool}
 use Rattle.std.specs.Prelude.{if◌then◌else◌}
 use Rattle.std.specs.List.{sum_by, All, Contains}
 use Rattle.std.proofs.lemmas.Bool.{cases_eq, eq-eqb, ne_eqb}
 use Rattle.std.proofs.lemmas.List.Sums.{sum_by-cons, sum_by_push, sum_by-set, sum_by_more}
 use Rattle.std.proofs.lemmas.List.Elements.{All-get_or, All-weaker, All-contains_itself, Contains-push_cases, Contains-get_or}
+use Rattle.common_lists.proofs.ListLaws.{take_own, get_or-default}
 use Rattle.nogood_store.specs.Hits.{PlainStore}
 use Rattle.steal_rule.specs.Deques.{Owned, Reaching, whole_reach, new_reach}
 use Rattle.incumbent_word.specs.Sittings.{Place, Sitting}
@@ -13,7 +14,8 @@ use Rattle.refutation_log.specs.declared.record.Record.{Record}
 use Rattle.branch_workers.specs.Gather.{only, held, Pile, IsHeld, IsGathered, IsFresh, IsMadeFor}
 use Rattle.branch_workers.specs.Making.{IsHired, AreHired, reachless, IsLent, IsShared, AreShared, AreEmpty}
 use Rattle.branch_workers.specs.declared.worker.Worker.{Worker}
-use Rattle.branch_workers.proofs.RoundLaws.{map-set, default, map_length}
+use Rattle.branch_workers.proofs.RoundLaws.{map-set}
+use Rattle.branch_workers.proofs.CrewLaws.{at_via}
 
 -- where a worker is held at a place of a changed list
 held_set : (ws : List Worker) (j : ℕ) (w : Worker) (r : Reaching) → IsHeld (set ws j w) r → IsHeld ws r ⊎ Contains w.reaches.items r
@@ -74,12 +76,12 @@ one_shared mains now_mains old now now' k d main' h l whole s =
           | inl first ↦ inl first
           | inr (j, low, is) ↦ inr (j, omega arith, is)
         ]
-        | inr is ↦ inr (k, omega arith, λ e. is ∙ ap new_reach (was ∙ default mains k d e in_mains))
+        | inr is ↦ inr (k, omega arith, λ e. is ∙ ap new_reach (was ∙ get_or-default mains k d e in_mains))
       ];
       done = λ i e low. elim (cases_eq i k) [
         | inl here ↦ subst (λ i. ((get_or (set now_mains k main') i e).deque ≡ (get_or mains i e).deque) × ((get_or (set now_mains k main') i e).number ≡ (get_or mains i e).number) × ((get_or (set now_mains k main') i e).stolen ≡ (get_or mains i e).stolen) × ((get_or (set now_mains k main') i e).parts + (length old - 1) ≡ 16)) (sym here)
             (subst (λ (x : Reaching). (x.deque ≡ (get_or mains k e).deque) × (x.number ≡ (get_or mains k e).number) × (x.stolen ≡ (get_or mains k e).stolen) × (x.parts + (length old - 1) ≡ 16)) (sym (get_or-set_same now_mains k main' e l))
-            (let same = was ∙ default mains k d e in_mains in (
+            (let same = was ∙ get_or-default mains k d e in_mains in (
               s.deque ∙ ap (λ (r : Reaching). r.deque) same,
               s.number ∙ ap (λ (r : Reaching). r.number) same,
               s.stolen ∙ ap (λ (r : Reaching). r.stolen) same,
@@ -142,14 +144,6 @@ take_all [] (suc n) e = refl
 take_all (x ∷ xs) zero e = absurd (omega arith)
 take_all (x ∷ xs) (suc n) e = ap (λ l. x ∷ l) (take_all xs n (omega arith))
 
-map_at : {X U : Type 0} (u : X → U) (xs ys : List X) (k : ℕ) (d e : X) → map u xs ≡ map u ys → k < length xs → u (get_or xs k d) ≡ u (get_or ys k e)
-map_at u xs ys k d e same l = sym (at xs k d (u d) l) ∙ ap (λ t. get_or t k (u d)) same ∙ at ys k e (u d) (let n = sym (map_length u xs) ∙ ap length same ∙ map_length u ys in omega arith)
-  where
-    at : (l : List _) (k : ℕ) (d : _) (v : _) → k < length l → get_or (map u l) k v ≡ u (get_or l k d)
-    at [] k d v i = absurd (omega arith)
-    at (x ∷ l) zero d v i = refl
-    at (x ∷ l) (suc k) d v i = at l k d v (omega arith)
-
 -- no reach of the list has the number
 only_none : (g : Reaching → ℕ) (k o : ℕ) (ms : List Reaching) → ((i : ℕ) (d : Reaching) → i < length ms → (get_or ms i d).number ≡ o + i) → k < o → sum_by (only k g) ms ≡ 0
 only_none g k o [] numbers l = refl
@@ -191,7 +185,7 @@ module _ (board : Place) (ws0 ws : List Worker) (ms0 ms : List Reaching) (ps0 ps
 
   -- a worker's own things stay
   kept : (k : ℕ) (d e : Worker) → k < n → reachless (get_or ws k d) ≡ reachless (get_or ws0 k e)
-  kept k d e l = map_at reachless ws ws0 k d e shared.rest (let a = length_is in omega arith)
+  kept k d e l = at_via reachless ws ws0 k d e shared.rest (let a = length_is in omega arith)
 
   deque_at : (k : ℕ) (d : Worker) (e : Reaching) → k < n → (get_or ms0 k e).deque ≡ (get_or ws k d).owner.deque
   deque_at k d e l = ap (λ (r : Reaching). r.deque) (one k d e l).main_is ∙ sym (ap (λ (u : ℕ × Sitting × Owned × List Report × List Record × PlainStore). u.2.deque) (kept k d d l))
@@ -309,13 +303,6 @@ module _ (board : Place) (ws0 ws : List Worker) (ms0 ms : List Reaching) (ps0 ps
       ones : {A : Type 0} (xs : List A) → sum_by (λ (x : A). 1) xs ≡ length xs
       ones [] = refl
       ones (x ∷ xs) = let a = sum_by-cons (λ (y : _). 1) x xs in let b = ones xs in omega arith
-
--- a Vec after its slice was written
-take_own : {X : Type 0} (n : ℕ) (xs zs : List X) → length xs ≡ n → take n (xs ++ zs) ≡ xs
-take_own zero [] zs e = refl
-take_own (suc n) [] zs e = absurd (omega arith)
-take_own zero (x ∷ xs) zs e = absurd (omega arith)
-take_own (suc n) (x ∷ xs) zs e = ap (λ l. x ∷ l) (take_own n xs zs (omega arith))
 
 numbers_of : (board : Place) (ws0 ws : List Worker) (ms0 ms : List Reaching) (n : ℕ) → AreHired board ws0 ms0 n → AreShared ms0 ms ws0 ws n → (i : ℕ) (d : Reaching) → i < length ms → (get_or ms i d).number ≡ 0 + i
 numbers_of board ws0 ws ms0 ms n hired shared i d l =

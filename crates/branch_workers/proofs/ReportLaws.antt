@@ -5,13 +5,13 @@ use Rattle.shape_exact.specs.declared.memory.NoMemory.{NoMemory}
 use Rattle.std.specs.List.{All, Contains}
 use Rattle.std.proofs.lemmas.Bool.{cases_lt}
 use Rattle.std.proofs.lemmas.List.Elements.{All-weaker, Contains-push, Contains-append_left, Contains-append_right}
+use Rattle.refutation_log.proofs.AppendedLaws.{earlier_step}
 use Rattle.branch_core.specs.declared.report.Report.{Report}
 use Rattle.branch_core.specs.Proper.{AreProper}
 use Rattle.branch_core.specs.Solved.{IsRefutation, IsSolvable, IsSolved, report_of}
 use Rattle.branch_kernel.specs.Growth.{Ends}
 use Rattle.branch_kernel.specs.Rivals.{IsRival, IsNotAfter}
 use Rattle.branch_kernel.specs.States.{State, state}
-use Rattle.branch_kernel.proofs.GrowthLaws.{step_more}
 use Rattle.nogood_store.specs.Hits.{PlainStore}
 use Rattle.plan_rule.specs.declared.job.Job.{Job}
 use Rattle.plan_rule.specs.Choices.{Choices, blocks}
@@ -113,7 +113,7 @@ solved_proved c job old new r known h =
 -- the records of a search are steps against an answer that is a rival of its report
 ended_steps : (c : Choices) (old new : State) (t : Option (List ℕ)) → Ends c old new → IsRival c new.bar new.best t → AreSteps c t old.log → AreSteps c t new.log
 ended_steps c old new t h rival s i l = elim (cases_lt i (length old.log)) [
-  | inl below ↦ subst (λ log. IsStepAt c t log i) (sym h.more.1) (step_more c t old.log h.more.0 i (s i below))
+  | inl below ↦ subst (λ log. IsStepAt c t log i) (sym h.more.1) (earlier_step c t old.log h.more.0 i (s i below))
   | inr above ↦ h.good i above l t rival
 ]
 

@@ -5,6 +5,7 @@ use Rattle.std.specs.List.{All, Contains}
 use Rattle.std.proofs.lemmas.List.{length-take}
 use Rattle.std.proofs.lemmas.List.Elements.{All-append, All-contains, All-cons, All-nil, All-weaker, Contains-push}
 use Rattle.std.proofs.lemmas.Option.{same_Some, slice_get-get_or, slice_get_within}
+use Rattle.common_lists.proofs.ListLaws.{map_length, get_map}
 use Rattle.shape_exact.specs.Yards.{PlainYard}
 use Rattle.plan_rule.specs.declared.literal.Literal.{Literal}
 use Rattle.plan_rule.specs.Boxes.{AreAmong, Holds, IsBox}
@@ -17,7 +18,7 @@ use Rattle.refutation_log.specs.declared.record.Record.{Record}
 use Rattle.refutation_log.specs.declared.record.Record.TheVariants.{Branch, Fit, Energy}
 use Rattle.refutation_log.specs.Logs.{AreSteps, CiteEarlier, PlainCapsule, appended, cites_of, raised}
 use Rattle.refutation_log.specs.Steps.{IsStep, IsStepAt, result_of}
-use Rattle.refutation_log.proofs.AppendedLaws.{appended_steps, get_after, later_step, map_length}
+use Rattle.refutation_log.proofs.AppendedLaws.{appended_steps, get_after, later_step, same_result}
 use Rattle.nogood_store.specs.declared.nogood.Nogood.{Nogood}
 use Rattle.nogood_store.specs.Hits.{PlainStore}
 use Rattle.branch_kernel.specs.Clean.{IsClean, Leads}
@@ -25,7 +26,7 @@ use Rattle.branch_kernel.specs.Known.{AreKnown}
 use Rattle.branch_kernel.specs.Rivals.{IsRival, Settles}
 use Rattle.branch_kernel.specs.Stored.{IsKept, IsStored, IsTagged}
 use Rattle.branch_kernel.proofs.CoverLaws.{covers_self, exist-box}
-use Rattle.branch_kernel.proofs.GrowthLaws.{clean_later}
+use Rattle.branch_kernel.proofs.GrowthLaws.{clean_later, tagged_more}
 use Rattle.branch_kernel.proofs.NodeLaws.{node_is_box}
 use Rattle.branch_core.specs.Proper.{AreProper}
 use Rattle.incumbent_word.specs.Calls.{IsFetched}
@@ -39,8 +40,8 @@ use Rattle.log_parts.proofs.PartLaws.{read_at}
 use Rattle.branch_workers.specs.Stock.{IsImported, IsLastKept, IsNamed, IsPostable, IsStorable, IsStocked}
 use Rattle.branch_workers.specs.Work.{IsGrownLog}
 use Rattle.branch_workers.proofs.ReportLaws.{best_within}
-use Rattle.branch_workers.proofs.StockLaws.{all_below, tagged_more}
-use Rattle.branch_workers.proofs.TakenLaws.{get_map, place_of_two, same_result, unmapped}
+use Rattle.branch_workers.proofs.StockLaws.{all_below}
+use Rattle.branch_workers.proofs.TakenLaws.{place_of_two, unmapped}
 
 -- an answer within a bar is a rival, as long as nothing is told of a best
 within_rival : (c : Choices) (bar : ℕ) (t : Option (List ℕ)) → IsRival c bar None t → IsWithin c t bar

@@ -1,16 +1,12 @@
 -- A worker's store from one search to the next.
 use Rattle.std.proofs.Common.{◌≡◌, ℕ, suc, ◌+◌, ◌-◌, ◌^◌, ◌<◌, ◌≤◌, List, [], ◌∷◌, ◌++◌, length, Option, Some, None, refl, sym, ap, ◌∙◌, subst, inl, inr, arith, length-append}
-use Rattle.std.specs.Prelude.{slice_get}
 use Rattle.std.specs.List.{All, Contains}
 use Rattle.std.proofs.lemmas.List.Elements.{All-append, All-contains, All-contains_itself, All-nil, All-weaker, Contains-append_right}
-use Rattle.std.proofs.lemmas.Option.{none-some, same_Some}
-use Rattle.plan_rule.specs.declared.literal.Literal.{Literal}
-use Rattle.plan_rule.specs.Boxes.{Covers, IsBox}
+use Rattle.std.proofs.lemmas.Option.{same_Some}
 use Rattle.plan_rule.specs.Choices.{Choices}
 use Rattle.plan_rule.specs.Laws.{AreSmall}
 use Rattle.plan_rule.specs.Reports.{IsBar}
 use Rattle.refutation_log.specs.declared.record.Record.{Record}
-use Rattle.refutation_log.specs.Steps.{result_of}
 use Rattle.nogood_store.specs.declared.nogood.Nogood.{Nogood}
 use Rattle.nogood_store.specs.Hits.{PlainStore, last_tag}
 use Rattle.branch_kernel.specs.Clean.{IsClean}
@@ -18,8 +14,7 @@ use Rattle.branch_kernel.specs.Growth.{Ends}
 use Rattle.branch_kernel.specs.Rivals.{Settles}
 use Rattle.branch_kernel.specs.States.{State, state}
 use Rattle.branch_kernel.specs.Stored.{IsTagged, IsStored, IsFresh}
-use Rattle.branch_kernel.proofs.CoverLaws.{covers_self}
-use Rattle.branch_kernel.proofs.GrowthLaws.{slice_get-more, clean_falls, settles_falls}
+use Rattle.branch_kernel.proofs.GrowthLaws.{clean_falls, settles_falls, tagged_more, fresh_tagged}
 use Rattle.branch_workers.specs.Stock.{IsPostable, IsStocked}
 
 -- what is at or below all keys that are seen now was at or below all that were seen before
@@ -44,24 +39,6 @@ stocked_none c log store seen none no_prefix = record {
   stored = subst (IsStored c log) (sym none) (All-nil (IsTagged c log));
   settles = λ n low. subst (All (λ (e : Nogood). Settles c n None e.part)) (sym none) (All-nil (λ (e : Nogood). Settles c n None e.part));
   clean = λ n fits low. subst (All (λ (e : Nogood). IsClean c n log e.tag)) (sym none) (All-nil (λ (e : Nogood). IsClean c n log e.tag));
-}
-
-pub tagged_more : (c : Choices) (log more : List Record) (e : Nogood) → IsTagged c log e → IsTagged c (log ++ more) e
-tagged_more c log more e t = record {
-  record_is = t.record_is;
-  at = slice_get-more log more e.tag t.record_is t.at;
-  contains = t.contains;
-  result_is = t.result_is;
-  part_is = t.part_is;
-}
-
-pub fresh_tagged : (c : Choices) (old : ℕ) (log : List Record) (e : Nogood) → IsFresh c old log e → IsTagged c log e
-fresh_tagged c old log e f = record {
-  record_is = f.record_is;
-  at = f.at;
-  contains = subst (λ box. Covers c (result_of c f.record_is) box) f.result (covers_self c (result_of c f.record_is));
-  result_is = subst (IsBox c) (sym f.result) f.part_is;
-  part_is = f.part_is;
 }
 
 -- the tags after a search

@@ -6,6 +6,7 @@ use Rattle.std.proofs.lemmas.List.{map_push, append_assoc}
 use Rattle.std.proofs.lemmas.List.Sums.{sum_by_push, sum_by-append}
 use Rattle.std.proofs.lemmas.List.Elements.{All-weaker, All-push, All-nil, All-cons, All-head, All-tail, All-get_or}
 use Rattle.std.proofs.lemmas.Option.{none-some, same_Some}
+use Rattle.common_lists.proofs.ListLaws.{get_map}
 use Rattle.branch_core.specs.declared.report.Report.{Report}
 use Rattle.plan_rule.specs.declared.job.Job.{Job}
 use Rattle.plan_rule.specs.Boxes.{Holds, IsBox}
@@ -14,8 +15,7 @@ use Rattle.plan_rule.specs.Yards.{choices}
 use Rattle.refutation_log.specs.declared.record.Record.{Record}
 use Rattle.refutation_log.specs.declared.record.Record.TheVariants.{Branch, Fit, Energy}
 use Rattle.refutation_log.specs.Logs.{raised, appended, AreSteps, CiteEarlier}
-use Rattle.refutation_log.specs.Steps.{result_of}
-use Rattle.refutation_log.proofs.AppendedLaws.{get_after}
+use Rattle.refutation_log.proofs.AppendedLaws.{get_after, same_result}
 use Rattle.log_merge.specs.declared.merging.Leaf.{Leaf}
 use Rattle.log_merge.specs.Closing.{AllExist, ExistsIn}
 use Rattle.log_merge.specs.Merging.{RefutesJob}
@@ -27,20 +27,10 @@ use Rattle.branch_workers.specs.declared.worker.Worker.{Worker}
 use Rattle.branch_workers.specs.Work.{job_of_report}
 use Rattle.log_merge.proofs.MergeLaws.{grown_shown}
 
-pub same_result : (c : Choices) (n : ℕ) (r : Record) → result_of c (raised n r) ≡ result_of c r
-same_result c n (Branch b lo hi side cites) = refl
-same_result c n (Fit side) = refl
-same_result c n (Energy from to side) = refl
-
 same_exists : (c : Choices) (n : ℕ) (r : Record) → ExistsIn c r → ExistsIn c (raised n r)
 same_exists c n (Branch b lo hi side cites) e = e
 same_exists c n (Fit side) e = e
 same_exists c n (Energy from to side) e = e
-
-pub get_map : {X Y : Type 0} (f : X → Y) (xs : List X) (k : ℕ) (x : X) → slice_get xs k ≡ Some x → slice_get (map f xs) k ≡ Some (f x)
-get_map f [] k x e = absurd (none-some x e)
-get_map f (y ∷ xs) zero x e = ap (λ y. Some (f y)) (same_Some y x e)
-get_map f (y ∷ xs) (suc k) x e = get_map f xs k x e
 
 -- what a record of the second log shows, it shows in the whole
 pub later_shown : (c : Choices) (log own : List Record) (k : ℕ) (job : Job) → RefutesJob c own k job → RefutesJob c (appended log own) (k + length log) job

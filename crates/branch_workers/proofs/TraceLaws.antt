@@ -1,30 +1,31 @@
 -- Where the reported jobs come from, and what the logs show of them.
-use Rattle.std.proofs.Common.{◌≡◌, ℕ, zero, suc, ◌+◌, ◌-◌, ◌/◌, ◌^◌, ◌<◌, ◌≤◌, List, [], ◌∷◌, ◌++◌, length, map, take, drop, set, get_or, length-set, get_or-set_same, get_or-set_other, Option, Some, None, Ok, Err, OnOk, IfOk, ◌⊎◌, refl, sym, ap, ◌∙◌, subst, inl, inr, arith}
+use Rattle.std.proofs.Common.{◌≡◌, ℕ, ◌+◌, ◌-◌, ◌<◌, ◌≤◌, List, [], ◌∷◌, ◌++◌, length, map, take, drop, set, get_or, length-set, get_or-set_same, get_or-set_other, Ok, Err, OnOk, ◌⊎◌, refl, sym, ap, ◌∙◌, subst, inl, inr, arith}
 use Rattle.std.specs.declared.result.Result.{Result}
-use Rattle.std.specs.Prelude.{replicate, slice_get}
+use Rattle.std.specs.Prelude.{replicate}
 use Rattle.std.specs.List.{All, Contains, sum_by}
-use Rattle.std.proofs.lemmas.Bool.{cases_eq, cases_lt}
+use Rattle.std.proofs.lemmas.Bool.{cases_eq}
 use Rattle.std.proofs.lemmas.List.{length-replicate}
 use Rattle.std.proofs.lemmas.List.Elements.{All-append, All-contains, All-contains_itself, All-cons, All-head, All-nil, All-tail, All-weaker, Contains-get_or}
 use Rattle.std.proofs.lemmas.List.Sums.{sum_by-cons}
 use Rattle.std.proofs.lemmas.Option.{none-some}
+use Rattle.common_lists.proofs.ListLaws.{take_own}
 use Rattle.plan_rule.specs.declared.job.Job.{Job}
 use Rattle.plan_rule.specs.Choices.{Choices, blocks, count}
 use Rattle.plan_rule.specs.Fronts.{HasCodes}
-use Rattle.plan_rule.specs.Jobs.{IsJob, lower, upper}
+use Rattle.plan_rule.specs.Jobs.{IsJob}
 use Rattle.plan_rule.specs.Paths.{IsInRegion}
-use Rattle.plan_rule.specs.Plans.{IsAnswer, IsBest, IsPlan, code_of}
-use Rattle.plan_rule.specs.Regions.{Follows, IsRegionPart, middle}
+use Rattle.plan_rule.specs.Plans.{IsPlan, code_of}
+use Rattle.plan_rule.specs.Regions.{Follows, middle}
 use Rattle.plan_rule.specs.Yards.{choices}
 use Rattle.plan_rule.proofs.JobLaws.{halves_are}
 use Rattle.plan_rule.proofs.PathLaws.{path-below}
 use Rattle.shape_exact.specs.Yards.{PlainYard}
+use Rattle.plan_rule.proofs.RegionPartLaws.{zeros}
 use Rattle.refutation_log.specs.declared.record.Record.{Record}
 use Rattle.refutation_log.specs.declared.record.Record.TheVariants.{Branch, Fit, Energy}
-use Rattle.refutation_log.specs.Logs.{AreSteps, CiteEarlier}
-use Rattle.refutation_log.specs.Steps.{IsAccepted}
+use Rattle.refutation_log.specs.Logs.{AreSteps}
 use Rattle.branch_core.specs.declared.report.Report.{Report}
-use Rattle.branch_core.specs.Proper.{AreProper, NamesBlocks}
+use Rattle.branch_core.specs.Proper.{NamesBlocks}
 use Rattle.incumbent_word.specs.Sittings.{Place, Sitting}
 use Rattle.steal_rule.specs.Deques.{Owned, Reaching}
 use Rattle.log_merge.specs.declared.merging.Leaf.{Leaf}
@@ -34,10 +35,10 @@ use Rattle.log_merge.specs.Merging.{HasTwo, IsRootOrHalf, RefutesJob}
 use Rattle.log_merge.specs.Tiles.{has, root, times}
 use Rattle.branch_workers.specs.declared.worker.Worker.{Worker}
 use Rattle.branch_workers.specs.Deal.{IsDealt, pushed_by}
-use Rattle.branch_workers.specs.Gather.{AreCollected, AreTraced, AreTracedBy, HasDealt, HasPlan, IsBalanced, IsDone, IsFresh, IsGathering, IsHonest, IsMadeFor, IsTraced, Pile, held, owner_of, popped_by, reports_by, stolen_from, unreached}
+use Rattle.branch_workers.specs.Gather.{AreCollected, AreTraced, AreTracedBy, HasDealt, HasPlan, IsBalanced, IsDone, IsGathering, IsHonest, IsMadeFor, Pile, held, owner_of, popped_by, reports_by, stolen_from, unreached}
 use Rattle.branch_workers.specs.Taken.{AreShown, AreTaken, CanBeTaken}
-use Rattle.branch_workers.specs.Work.{Grown, HasWorked, IsHalf, IsLogged, IsMade, IsProved, IsSound, IsSplit, IsTakenSince, job_of_report, robbed}
-use Rattle.branch_workers.proofs.CrewLaws.{all_via, at_via, drop_all, length_via, nothing_piled, on_ok, sum_via, take_all}
+use Rattle.branch_workers.specs.Work.{HasWorked, IsHalf, IsLogged, IsMade, IsProved, IsSound, IsSplit, IsTakenSince, job_of_report, robbed}
+use Rattle.branch_workers.proofs.CrewLaws.{all_via, at_via, drop_all, length_via, nothing_piled, sum_via}
 use Rattle.branch_workers.proofs.WeightLaws.{all_by_weight, is_job, is_self, member_weighs, same_is, some_weighs}
 
 -- a job that was made is one that may be dealt
@@ -145,7 +146,7 @@ pub dealt_back : (c : Choices) (split : ℕ) (ws : List Worker) (piles : List Pi
     → ((h : Job → ℕ) → pushed_by h (take n (ws ++ zs)) ≡ popped_by h (take n (ws ++ zs)) + stolen_from h (take m (piles ++ qs))) → All (λ (r : Report). IsDealt c split r.job) all
 dealt_back c split ws piles n m zs qs all e f h paid = all_dealt c split ws piles all h (λ h.
     let a = paid h in
-    let p = ap (pushed_by h) (take_all n ws zs e) in let q = ap (popped_by h) (take_all n ws zs e) in let r = ap (stolen_from h) (take_all m piles qs f) in omega arith)
+    let p = ap (pushed_by h) (take_own n ws zs e) in let q = ap (popped_by h) (take_own n ws zs e) in let r = ap (stolen_from h) (take_own m piles qs f) in omega arith)
 
 pub all_short : (c : Choices) (split most : ℕ) (all : List Report) → most ≤ split → All (λ (r : Report). IsDealt c most r.job) all → All (λ (r : Report). r.job.length ≤ split) all
 all_short c split most all l h = All-weaker (λ (r : Report). IsDealt c most r.job) (λ (r : Report). r.job.length ≤ split) (λ r d. let s = d.short in omega arith) all h
@@ -209,11 +210,6 @@ half_plan c job (whole, is, short, (codes, lo, hi, part, l), which) = elim part.
   | inr gone ↦ (let e = gone.0 in absurd (omega arith))
 ]
 
-zeros : (n b : ℕ) → code_of (replicate n 0) b ≡ 0
-zeros zero b = refl
-zeros (suc n) zero = refl
-zeros (suc n) (suc b) = zeros n b
-
 root_plan : (c : Choices) → HasCodes c → HasPlan c root
 root_plan c some_codes = (p, (plan, omega arith, (let b = path-below c p in omega arith)))
   where
@@ -256,7 +252,7 @@ pub once_back : (ws : List Worker) (piles : List Pile) (n m : ℕ) (zs : List Wo
     → ((h : Job → ℕ) → pushed_by h (take n (ws ++ zs)) ≡ popped_by h (take n (ws ++ zs)) + stolen_from h (take m (piles ++ qs))) → (x : ℕ) → times x (map job_of_report all) ≡ has x root
 once_back ws piles n m zs qs all e f b paid x =
     let a = paid (has x) in let t = b x in
-    let p = ap (pushed_by (has x)) (take_all n ws zs e) in let q = ap (popped_by (has x)) (take_all n ws zs e) in let r = ap (stolen_from (has x)) (take_all m piles qs f) in omega arith
+    let p = ap (pushed_by (has x)) (take_own n ws zs e) in let q = ap (popped_by (has x)) (take_own n ws zs e) in let r = ap (stolen_from (has x)) (take_own m piles qs f) in omega arith
 
 named_exists : (c : Choices) (r : Record) → NamesBlocks c r → ExistsIn c r
 named_exists c (Branch b lo hi side cites) h = h.0
@@ -299,10 +295,6 @@ collected yard ws all log leaves honest taken weighed = record {
         mapped : (h : Job → ℕ) (rs : List Report) → sum_by h (map job_of_report rs) ≡ sum_by (λ (r : Report). h r.job) rs
         mapped h [] = refl
         mapped h (r ∷ rs) = let a = sum_by-cons h r.job (map job_of_report rs) in let b = sum_by-cons (λ (r : Report). h r.job) r rs in let d = mapped h rs in omega arith
-
-pub best_answers : (c : Choices) (t : Option (List ℕ)) → IsBest c t → IsAnswer c t
-best_answers c None h = tt
-best_answers c (Some p) h = h.0
 
 pub collected_from : (yard : PlainYard) (ws : List Worker) (all : List Report) (log0 log : List Record) (leaves0 leaves : List Leaf) → log0 ≡ [] → leaves0 ≡ [] → All (IsHonest (choices yard)) ws
     → AreTaken log0 leaves0 ws log leaves → ((h : Job → ℕ) → sum_by h (map job_of_report all) ≡ reports_by h ws) → AreCollected (choices yard) all log leaves

@@ -1,10 +1,11 @@
 -- The least cost of placements, stand by stand.
-use Rattle.std.proofs.Common.{◌≡◌, ℕ, zero, suc, ◌+◌, ◌-◌, ◌*◌, ◌≤◌, ◌<◌, List, [], ◌∷◌, ◌++◌, length, get_or, Option, Some, None, sym, ap, ◌∙◌, subst, arith, false, inl, inr}
+use Rattle.std.proofs.Common.{◌≡◌, ℕ, suc, ◌+◌, ◌-◌, ◌*◌, ◌≤◌, ◌<◌, List, [], ◌∷◌, ◌++◌, length, get_or, Option, Some, None, sym, ap, ◌∙◌, subst, arith, false, inl, inr}
 use Rattle.std.specs.Prelude.{slice_get, unwrap_or, IfNone, IfSome}
 use Rattle.std.proofs.lemmas.Bool.{cases_Bool, cases_lt}
 use Rattle.std.proofs.lemmas.List.{append-nil, nil_from_length}
 use Rattle.std.proofs.lemmas.Nat.{mul-le}
-use Rattle.std.proofs.lemmas.Option.{slice_get_within, none-some}
+use Rattle.std.proofs.lemmas.Option.{slice_get_within}
+use Rattle.common_lists.proofs.ListLaws.{get_before, element_at}
 use Rattle.shape_exact.specs.Yards.{PlainYard, IsYard, IsBlock}
 use Rattle.shape_exact.specs.declared.block.Block.{Block}
 use Rattle.shape_exact.specs.declared.plate.Plate.{Plate}
@@ -18,15 +19,9 @@ use Rattle.code_table.specs.Stands.{stands, nth_stand, stand_start, stand_plate,
 use Rattle.code_table.specs.Tables.{IsSums}
 use Rattle.code_table.proofs.FlatLaws.{placements-stands}
 use Rattle.code_table.proofs.StandLaws.{sum_to-more, placements-of, stand_grid}
-use Rattle.code_table.proofs.ReadLaws.{some_at, block_limits, stand_of, stand-allowed, stand-turnless}
+use Rattle.code_table.proofs.ReadLaws.{block_limits, stand_of, stand-allowed, stand-turnless}
 use Rattle.code_table.proofs.PlacedLaws.{in_grid, placed-facts}
 use Rattle.code_table.proofs.SpotLaws.{in_range}
-
--- an element of the front, and one of the back, is an element of the whole
-front_at : {A : Type 0} (xs ys : List A) (k : ℕ) (x : A) → slice_get xs k ≡ Some x → slice_get (xs ++ ys) k ≡ Some x
-front_at [] ys k x e = absurd (none-some x e)
-front_at (z ∷ xs) ys zero x e = e
-front_at (z ∷ xs) ys (suc k) x e = front_at xs ys k x e
 
 back_at : {A : Type 0} (xs ys : List A) (k : ℕ) (x : A) → slice_get ys k ≡ Some x → (m : ℕ) × (slice_get (xs ++ ys) m ≡ Some x)
 back_at [] ys k x e = (k, e)
@@ -43,7 +38,7 @@ least-append block xs ys (Some a) (Some b) x y = (
     | inr back ↦ let (m, at, long) = back in let l = y.0 m p at in omega arith
   ],
   elim (cases_lt a b) [
-    | inl less ↦ let (k, p, at, is) = x.1 in (k, p, front_at xs ys k p at, omega arith)
+    | inl less ↦ let (k, p, at, is) = x.1 in (k, p, get_before xs ys k p at, omega arith)
     | inr other ↦ let (k, p, at, is) = y.1 in let (m, there) = back_at xs ys k p at in (m, p, there, omega arith)
   ],
 )
@@ -91,7 +86,7 @@ least_stand yard block sums k start p turn end cost s l steps a b c e is =
           let long = ap length grid in
           let one_cost : (j : ℕ) (x : Placement) → slice_get (stand_grid block e.plate start end p turn) j ≡ Some x → cost_at block x ≡ cost =
           λ j x at. ap (cost_on block) (end_in_grid block e.plate start p turn end j x at) ∙ sym is in
-          let (x, at) = some_at (stand_grid block e.plate start end p turn) 0 (elim (cases_lt 0 (length (nth_stand yard block k))) [
+          let (x, at) = element_at (stand_grid block e.plate start end p turn) 0 (elim (cases_lt 0 (length (nth_stand yard block k))) [
             | inl some ↦ omega arith
             | inr none ↦ absurd (steps (omega arith))
           ]) in
@@ -121,7 +116,7 @@ pub least_low : (yard : PlainYard) (b : ℕ) (block : Block) (o : Option ℕ) �
 least_low yard b block None at l = tt
 least_low yard b block (Some c) at l = λ code within.
     let same = placements-of yard b block at in
-    let (p, is) = some_at (placements_of yard block) code (let e = ap length same in omega arith) in
+    let (p, is) = element_at (placements_of yard block) code (let e = ap length same in omega arith) in
     let m = l.0 code p is in let e = cost_of_code yard b code block p at is in omega arith
 
 pub least_attained : (yard : PlainYard) (b : ℕ) (block : Block) (o : Option ℕ) → slice_get yard.blocks b ≡ Some block

@@ -1,8 +1,9 @@
 -- On one plate a later start has no earlier end.
-use Rattle.std.proofs.Common.{◌≡◌, ℕ, zero, suc, ◌+◌, ◌-◌, ◌≤◌, List, [], ◌∷◌, drop, Option, Some, None, refl, sym, ap, ◌∙◌, arith, Bool, true, false, inl, inr, nat_lt, nat_le, cond}
+use Rattle.std.proofs.Common.{◌≡◌, ℕ, zero, suc, ◌+◌, ◌-◌, ◌≤◌, List, [], ◌∷◌, Option, Some, None, sym, ap, ◌∙◌, arith, Bool, true, false, inl, inr, nat_lt, nat_le, cond}
 use Rattle.std.specs.Prelude.{slice_get, filter, not, if◌then◌else◌}
 use Rattle.std.proofs.lemmas.Bool.Decides.{nat_tests}
 use Rattle.std.proofs.lemmas.Option.{same_Some, none-some}
+use Rattle.common_lists.proofs.ListLaws.{get_drop}
 use Rattle.shape_exact.specs.Yards.{PlainYard, IsYard}
 use Rattle.shape_exact.specs.Days.{has_day, are_days}
 use Rattle.shape_exact.specs.declared.block.Block.{Block}
@@ -16,11 +17,6 @@ use Rattle.code_table.specs.Orders.{ComesBefore, EndsAscend}
 use Rattle.code_table.specs.Placements.{placements_of}
 use Rattle.code_table.proofs.PlacedLaws.{placed-facts}
 use Rattle.code_table.proofs.OrderLaws.{placements_ascend}
-
-drop_at : (n k : ℕ) (xs : List ℕ) → slice_get (drop n xs) k ≡ slice_get xs (n + k)
-drop_at zero k xs = ap (slice_get xs) (let e : k ≡ zero + k = omega arith in e)
-drop_at (suc n) k [] = refl
-drop_at (suc n) k (x ∷ xs) = drop_at n k xs ∙ ap (slice_get (x ∷ xs)) (let e : suc (n + k) ≡ suc n + k = omega arith in e)
 
 -- a later day of an ascending list is no less
 later_day : (low high i j a b : ℕ) (xs : List ℕ) → are_days low high xs ≡ true → i ≤ j → slice_get xs i ≡ Some a → slice_get xs j ≡ Some b → a ≤ b
@@ -44,7 +40,7 @@ fewer_below s t (x ∷ xs) l =
 end_in_list : (opens : List ℕ) (start duration end : ℕ) → are_days 0 400 opens ≡ true → end_of opens start duration ≡ Some end
     → slice_get opens (count_below start opens + (duration - 1)) ≡ Some end
 end_in_list opens start duration end asc e =
-    sym (drop_at (count_below start opens) (duration - 1) opens)
+    sym (get_drop (count_below start opens) (duration - 1) opens)
     ∙ ap (λ ds. slice_get ds (duration - 1)) (sym (filter_from start 0 400 opens asc))
     ∙ picked_some (has_day start opens) (slice_get (filter (λ d. nat_le start d) opens) (duration - 1)) end e
   where
@@ -60,7 +56,7 @@ later_end opens s t duration a b asc l e f =
     later_day 0 400 (count_below s opens + (duration - 1)) (count_below t opens + (duration - 1)) a b opens asc (omega arith)
     (end_in_list opens s duration a asc e) (end_in_list opens t duration b asc f)
 
-first_start : (p q : Placement) → ComesBefore p q → p.start ≤ q.start
+pub first_start : (p q : Placement) → ComesBefore p q → p.start ≤ q.start
 first_start p q order = elim order [ inl less ↦ omega arith | inr same ↦ let e = same.0 in omega arith ]
 
 -- along the codes of a block the ends on one plate never fall

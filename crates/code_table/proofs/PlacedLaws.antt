@@ -1,7 +1,8 @@
 -- Each element of the list of placements is a placement.
-use Rattle.std.proofs.Common.{◌≡◌, ℕ, ◌+◌, ◌*◌, ◌≤◌, ◌<◌, List, [], ◌∷◌, length, Option, Some, None, refl, ap, subst, Bool, true, false}
+use Rattle.std.proofs.Common.{◌≡◌, ℕ, ◌+◌, ◌*◌, ◌≤◌, ◌<◌, List, [], ◌∷◌, length, Some, refl, subst, true, false}
 use Rattle.std.specs.Prelude.{slice_get, nat_le, unwrap_or}
-use Rattle.std.proofs.lemmas.Bool.{leb-true, false≢true}
+use Rattle.std.proofs.lemmas.Bool.{leb-true}
+use Rattle.common_lists.proofs.ListLaws.{told_true}
 use Rattle.shape_exact.specs.Yards.{PlainYard}
 use Rattle.shape_exact.specs.declared.block.Block.{Block}
 use Rattle.shape_exact.specs.declared.plate.Plate.{Plate}
@@ -18,10 +19,6 @@ from-step pitch long size k f x e =
     let (i, l, j, at) = from-each (size + 1) k (at_step pitch long size f) x e in
     let (fits, here) = from-when (nat_le (i * pitch + long) size) (f (i * pitch)) j x at in
     (i, leb-true _ _ fits, j, here)
-
-allowed-true : (o : Option Bool) → unwrap_or o false ≡ true → o ≡ Some true
-allowed-true None e = absurd (false≢true e)
-allowed-true (Some b) e = ap Some e
 
 -- where an element of a grid stands
 pub record InGrid (plate : Plate) (high long : ℕ) (f : ℕ → ℕ → Placement) (p : Placement) : Type 0 where
@@ -49,7 +46,7 @@ in_turns : (block : Block) (start end pl n : ℕ) (plate : Plate) (k : ℕ) (p :
 in_turns block start end pl n plate k p e =
     let (turn, l, k1, e1) = from-each n k (λ turn. when (unwrap_or (slice_get block.turns turn) false) (turn_grid block start end pl plate turn)) p e in
     let (allowed, e2) = from-when (unwrap_or (slice_get block.turns turn) false) (turn_grid block start end pl plate turn) k1 p e1 in
-    (turn, l, allowed-true (slice_get block.turns turn) allowed, in_grid plate _ _ (placed start end pl turn) k1 p e2)
+    (turn, l, told_true (slice_get block.turns turn) allowed, in_grid plate _ _ (placed start end pl turn) k1 p e2)
 
 as_placement : (yard : PlainYard) (block : Block) (start end pl turn : ℕ) (plate : Plate) (p : Placement)
     → slice_get yard.plates pl ≡ Some plate → start < yard.days → block.release ≤ start

@@ -1,5 +1,5 @@
 -- What the plates, the calendars and the turned shapes of a yard say of a stand.
-use Rattle.std.proofs.Common.{◌≡◌, ℕ, zero, suc, ◌∷◌, ◌*◌, ◌≤◌, ◌<◌, List, [], length, get_or, map, Option, Some, None, refl, sym, ap, ◌∙◌, subst, arith, Bool, true, false}
+use Rattle.std.proofs.Common.{◌≡◌, ℕ, ◌*◌, ◌≤◌, ◌<◌, List, [], length, get_or, map, Option, Some, None, refl, sym, ap, ◌∙◌, subst, arith, Bool, true, false}
 use Rattle.std.specs.Prelude.{slice_get, unwrap_or, IfNone, IfSome, All}
 use Rattle.std.proofs.lemmas.Option.{none-some, same_Some, slice_get_read, slice_get-map, unwrap_or-slice_get, get_or_from_slice_get, slice_get_within}
 use Rattle.std.proofs.lemmas.List.{length-map}
@@ -65,12 +65,6 @@ pub stand-turnless : (yard : PlainYard) (block : Block) (start p turn : ℕ) (pl
     → unwrap_or (slice_get block.turns turn) false ≡ false → stand_at yard block start p turn ≡ []
 stand-turnless yard block start p turn plate end l at is allowed =
     stand-ends yard block start p turn plate end l at is ∙ ap (λ b. when b (stand_grid block plate start end p turn)) allowed
-
--- within a list something stands
-pub some_at : {A : Type 0} (xs : List A) (i : ℕ) → i < length xs → (x : A) × (slice_get xs i ≡ Some x)
-some_at [] i l = absurd (omega arith)
-some_at (x ∷ xs) zero l = (x, refl)
-some_at (x ∷ xs) (suc i) l = some_at xs i (omega arith)
 
 -- what the calendar of a plate answers of an end: none, and then there is no placement, or the end
 pub ends_none : (yard : PlainYard) (block : Block) (start p : ℕ) (plate : Plate) (opens : List ℕ) (o : Option ℕ)

@@ -4,6 +4,7 @@ use Rattle.std.specs.Prelude.{slice_get, unwrap_or}
 use Rattle.std.proofs.lemmas.Bool.{cases_Bool, cases_lt}
 use Rattle.std.proofs.lemmas.Nat.{mul-le}
 use Rattle.std.proofs.lemmas.Option.{same_Some, slice_get_within}
+use Rattle.common_lists.proofs.ListLaws.{element_at}
 use Rattle.shape_exact.specs.Yards.{PlainYard, IsYard, IsPlate, IsBlock}
 use Rattle.shape_exact.specs.declared.block.Block.{Block}
 use Rattle.shape_exact.specs.declared.plate.Plate.{Plate}
@@ -19,7 +20,7 @@ use Rattle.code_table.specs.Tables.{IsSums}
 use Rattle.code_table.specs.Spots.{IsSpot, spot_grid, spot_placement}
 use Rattle.code_table.proofs.GridLaws.{get-grid, length-grid_of}
 use Rattle.code_table.proofs.StandLaws.{placements-of, length-placements, get-stand}
-use Rattle.code_table.proofs.ReadLaws.{some_at, plate_limits, block_limits, stand_of, stand-allowed, stand-turnless}
+use Rattle.code_table.proofs.ReadLaws.{plate_limits, block_limits, stand_of, stand-allowed, stand-turnless}
 use Rattle.code_table.proofs.PlacedLaws.{placed-facts}
 
 -- where there is a placement, there is a stand
@@ -186,14 +187,14 @@ pub placed_code : (yard : PlainYard) (b code : ℕ) (s : Spot) (plate : Plate) (
     → ((block : Block) → slice_get yard.blocks b ≡ Some block → shape ≡ turned s.turn block.shape)
     → (block : Block) × (slice_get yard.blocks b ≡ Some block) × Places yard block code s plate shape
 placed_code yard b code s plate shape y l spot at shaped =
-    let (block, is) = some_at yard.blocks b l in
+    let (block, is) = element_at yard.blocks b l in
     (block, is, places yard block code s plate shape y (block_limits yard b block y is) (spot block is) at (shaped block is))
 
 -- the plate and the turn of a spot exist
 pub spot_exists : (yard : PlainYard) (b code : ℕ) (s : Spot) → b < length yard.blocks
     → ((block : Block) → slice_get yard.blocks b ≡ Some block → IsSpot yard block code s) → (s.plate < length yard.plates) × (s.turn < 4)
 spot_exists yard b code s l spot =
-    let (block, is) = some_at yard.blocks b l in let e = spot block is in (spot_plate yard block code s e, e.turn)
+    let (block, is) = element_at yard.blocks b l in let e = spot block is in (spot_plate yard block code s e, e.turn)
 
 -- its end is below 400
 pub spot_end : (yard : PlainYard) (b code : ℕ) (block : Block) (s : Spot) → IsYard yard → slice_get yard.blocks b ≡ Some block

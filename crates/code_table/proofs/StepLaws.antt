@@ -5,16 +5,12 @@ use Rattle.std.proofs.lemmas.List.{append-nil}
 use Rattle.std.proofs.lemmas.Bool.{le-leb, lt-leb}
 use Rattle.std.proofs.lemmas.Nat.{div-add-mod', mod_below, mul-le}
 use Rattle.common_lists.specs.Each.{each, when}
-use Rattle.common_lists.proofs.EachLaws.{each-add, each_agree, each-nil, length-each, sum_below-const}
+use Rattle.common_lists.proofs.EachLaws.{each-add, each_agree, each-nil, length-each, sum_below-const, when_false}
 use Rattle.code_table.specs.Placements.{at_step, each_step}
 
 when_true : {A : Type 0} (b : Bool) (xs : List A) → b ≡ true → when b xs ≡ xs
 when_true true xs e = refl
 when_true false xs e = cc
-
-when_false : {A : Type 0} (b : Bool) (xs : List A) → b ≡ false → when b xs ≡ []
-when_false true xs e = cc
-when_false false xs e = refl
 
 -- where there is room, the steps are the first multiples
 pub each_step-fits : {A : Type 0} (pitch long size : ℕ) (f : ℕ → List A) → 0 < pitch → long ≤ size

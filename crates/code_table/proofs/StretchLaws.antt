@@ -2,6 +2,7 @@
 use Rattle.std.proofs.Common.{◌≡◌, ℕ, ◌+◌, ◌-◌, ◌*◌, ◌/◌, ◌%◌, ◌≤◌, ◌<◌, List, length, get_or, Some, sym, ap, ◌∙◌, subst, arith, false}
 use Rattle.std.specs.Prelude.{slice_get, unwrap_or}
 use Rattle.std.proofs.lemmas.Option.{slice_get_within}
+use Rattle.common_lists.proofs.ListLaws.{element_at}
 use Rattle.shape_exact.specs.Yards.{PlainYard, IsYard, IsBlock}
 use Rattle.shape_exact.specs.declared.block.Block.{Block}
 use Rattle.shape_exact.specs.declared.plate.Plate.{Plate}
@@ -18,7 +19,7 @@ use Rattle.code_table.specs.Tables.{IsSums}
 use Rattle.code_table.proofs.ListedLaws.{listed-grid}
 use Rattle.code_table.proofs.OrderLaws.{one_code}
 use Rattle.code_table.proofs.PlacedLaws.{placed-facts}
-use Rattle.code_table.proofs.ReadLaws.{block_limits, plate_limits, some_at, stand-allowed, stand_of}
+use Rattle.code_table.proofs.ReadLaws.{block_limits, plate_limits, stand-allowed, stand_of}
 use Rattle.code_table.proofs.SpotLaws.{InRange, Places, in_range, in_stand, places, spot_at}
 use Rattle.code_table.proofs.StandLaws.{placements-of, stand-get, stand_grid, sum_to-le, sum_to-more}
 
@@ -121,7 +122,7 @@ stretch_end yard block sums k plate shape s y b all within of some =
 pub in_limits : (yard : PlainYard) (b code : ℕ) (p : Placement) → IsYard yard → b < length yard.blocks → slice_get (placements yard b) code ≡ Some p
     → InRange yard p
 in_limits yard b code p y l at =
-    let (block, is) = some_at yard.blocks b l in
+    let (block, is) = element_at yard.blocks b l in
     in_range yard block p y (block_limits yard b block y is)
     (placed-facts yard block code p (ap (λ ps. slice_get ps code) (sym (placements-of yard b block is)) ∙ at))
 

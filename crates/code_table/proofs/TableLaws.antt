@@ -1,9 +1,10 @@
 -- Tables of blocks, and their sums.
-use Rattle.std.proofs.Common.{◌≡◌, ℕ, zero, suc, ◌-◌, ◌≤◌, ◌<◌, List, [], ◌∷◌, ◌++◌, length, get_or, Some, refl, sym, ap, ◌∙◌, subst, arith, inl, inr}
+use Rattle.std.proofs.Common.{◌≡◌, ℕ, ◌-◌, ◌≤◌, ◌<◌, List, [], ◌∷◌, ◌++◌, length, get_or, Some, sym, ap, ◌∙◌, subst, arith, inl, inr}
 use Rattle.std.specs.Prelude.{slice_get}
-use Rattle.std.proofs.lemmas.Option.{same_Some, none-some, slice_get_past}
+use Rattle.std.proofs.lemmas.Option.{same_Some, slice_get_past}
 use Rattle.std.proofs.lemmas.Bool.{cases_lt}
 use Rattle.common_lists.specs.Each.{for_some}
+use Rattle.common_lists.proofs.ListLaws.{only_element, element_at}
 use Rattle.shape_exact.specs.Yards.{PlainYard}
 use Rattle.shape_exact.specs.declared.block.Block.{Block}
 use Rattle.common_lists.proofs.EachLaws.{get-append_cases}
@@ -12,16 +13,11 @@ use Rattle.code_table.specs.Placements.{placements, placements_of}
 use Rattle.code_table.specs.Stands.{stands}
 use Rattle.code_table.specs.Tables.{IsSums, IsTable, IsCoded}
 use Rattle.code_table.proofs.StandLaws.{length-placements, placements-of}
-use Rattle.code_table.proofs.ReadLaws.{some_at}
 
 -- each block so far has its table
 abbrev pub HasTables : PlainYard → List Block → List Table → Type 0
 HasTables yard blocks tables =
     (b : ℕ) (block : Block) (t : Table) → slice_get blocks b ≡ Some block → slice_get tables b ≡ Some t → IsTable yard block t
-
-only_one : {A : Type 0} (x y : A) (m : ℕ) → slice_get (x ∷ []) m ≡ Some y → (m ≡ 0) × (x ≡ y)
-only_one x y zero e = (refl, same_Some x y e)
-only_one x y (suc m) e = absurd (none-some y e)
 
 -- one table more
 pub tables_more : (yard : PlainYard) (blocks : List Block) (tables more : List Table) (i : ℕ) (block : Block) (t : Table)
@@ -32,7 +28,7 @@ tables_more yard blocks tables more i block t long old at is pushed b bl tb in_b
       | inl front ↦ old b bl tb in_blocks front
       | inr back ↦
           let (m, here, where_is) = back in
-          let (first, same) = only_one t tb m here in
+          let (first, same) = only_element t tb m here in
           let e : b ≡ i = omega arith in
           let f : block ≡ bl = same_Some block bl (sym at ∙ ap (slice_get blocks) (sym e) ∙ in_blocks) in
           subst (λ bl. IsTable yard bl tb) f (subst (IsTable yard block) same is)
@@ -49,7 +45,7 @@ count_at yard block sums s =
 pub table_at : (yard : PlainYard) (calendars : List (List ℕ)) (tables : List Table) (b : ℕ) (t : Table) → IsCoded yard calendars tables
     → b < length yard.blocks → slice_get tables b ≡ Some t → (block : Block) × (slice_get yard.blocks b ≡ Some block) × IsTable yard block t
 table_at yard calendars tables b t c l at =
-    let (block, is) = some_at yard.blocks b l in (block, is, c.tables.each_is b block t is at)
+    let (block, is) = element_at yard.blocks b l in (block, is, c.tables.each_is b block t is at)
 
 -- no block has more than 1,048,576 placements
 pub all_few : (yard : PlainYard) (calendars : List (List ℕ)) (tables : List Table) (b : ℕ) → IsCoded yard calendars tables
@@ -57,7 +53,7 @@ pub all_few : (yard : PlainYard) (calendars : List (List ℕ)) (tables : List Ta
 all_few yard calendars tables b c = elim (cases_lt b (length yard.blocks)) [
   | inl within ↦
       let l : b < length tables = let e = c.tables.one_each in omega arith in
-      let (t, at) = some_at tables b l in
+      let (t, at) = element_at tables b l in
       let (block, is, table) = table_at yard calendars tables b t c within at in
       let few = table.few in
       let e : length (placements yard b) ≡ length (placements_of yard block) = ap length (placements-of yard b block is) in

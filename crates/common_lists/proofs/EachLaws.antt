@@ -171,3 +171,7 @@ sum-times (suc n) m f = let h = sum-times n m f in omega arith
 pub sum-agree : (n : ℕ) (f g : ℕ → ℕ) → ((i : ℕ) → i < n → f i ≡ g i) → sum_below n f ≡ sum_below n g
 sum-agree zero f g h = refl
 sum-agree (suc n) f g h = let a = sum-agree n f g (λ i l. h i (omega arith)) in let b = h n (omega arith) in omega arith
+
+pub when_false : {A : Type 0} (b : Bool) (xs : List A) → b ≡ false → when b xs ≡ []
+when_false true xs e = cc
+when_false false xs e = refl

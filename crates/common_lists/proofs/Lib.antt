@@ -1,2 +1,4 @@
 pub mod EachLaws
 pub mod FirstLaws
+pub mod ListLaws
+pub mod NumberLaws

@@ -9,6 +9,7 @@ use native.Mathlib.Decide.{ℕ_discrete}
 use lib.ListN.{get_elem?}
 use Rattle.atomic_table.specs.Table.{Splits, Joins}
 use Rattle.atomic_table.proofs.Lists.{at_snoc, set_again, set_else, at_longer}
+use Rattle.common_lists.proofs.ListLaws.{sum_set}
 use Rattle.shape_exact.specs.Yards.{PlainYard}
 use Rattle.plan_rule.specs.Plans.{IsFeasible}
 use Rattle.plan_rule.specs.Paths.{key}
@@ -16,7 +17,7 @@ use Rattle.plan_rule.specs.Yards.{choices}
 use Rattle.incumbent_word.specs.declared.rule.View.{View}
 use Rattle.incumbent_word.specs.Views.{spent, apart_of, both_of}
 use Rattle.incumbent_word.specs.Rule.{best_key, holds_turn, WasOffered, IsKept}
-use Rattle.incumbent_word.proofs.ViewLaws.{sum_set, at_here, same_view, fits, fits_set, Fits}
+use Rattle.incumbent_word.proofs.ViewLaws.{at_here, same_view, fits, fits_set, Fits}
 use Rattle.incumbent_word.proofs.TurnLaws.{no_turn}
 
 module _ (yard : PlainYard) where

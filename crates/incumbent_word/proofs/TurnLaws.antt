@@ -12,6 +12,7 @@ use lib.ListN.{get_elem?}
 use prog.Atomic.{either}
 use Rattle.atomic_table.specs.Table.{State, Act, keeps, takes, gives, Valid, carried_after, rest, Allows, stepped}
 use Rattle.atomic_table.proofs.Lists.{set_again}
+use Rattle.common_lists.proofs.ListLaws.{there, sum_set}
 use Rattle.shape_exact.specs.Yards.{PlainYard}
 use Rattle.refutation_log.specs.Logs.{PlainCapsule}
 use Rattle.incumbent_word.specs.declared.rule.View.{View}
@@ -19,7 +20,7 @@ use Rattle.incumbent_word.specs.Sharing.{IsShareable, IsPostable}
 use Rattle.incumbent_word.specs.Views.{at_turn, found_taken, found_empty}
 use Rattle.incumbent_word.specs.Rule.{Content, Home, best_key, home_of, holds_turn, IsOffered, IsLeast, IsTurnWord, IsGood, IsKept}
 use Rattle.incumbent_word.specs.Plays.{Mine, Took, Gave, GaveEmpty}
-use Rattle.incumbent_word.proofs.ViewLaws.{there, sum_set, IsLike, fits, fits_like, fits_set, offered_set}
+use Rattle.incumbent_word.proofs.ViewLaws.{IsLike, fits, fits_like, fits_set, offered_set}
 
 -- 1 where the turn is that of the word
 abbrev one_at : ℕ → Option ℕ → ℕ

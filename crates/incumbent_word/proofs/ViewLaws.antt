@@ -1,8 +1,6 @@
 -- What the rule says of each view, where one view changes.
-use Rattle.std.proofs.Common.{◌≡◌, ◌≢◌, ℕ, zero, suc, ◌+◌, ◌<◌, ◌≤◌, List, [], ◌∷◌, length, set, get_or, sym, refl, ap, ◌∙◌, subst, inl, inr, ⊎_elim, le_trans, arith, All, Contains}
-use Rattle.std.specs.List.{sum_by}
+use Rattle.std.proofs.Common.{◌≡◌, ◌≢◌, ℕ, zero, suc, ◌≤◌, List, [], ◌∷◌, set, sym, refl, ap, ◌∙◌, subst, inl, inr, ⊎_elim, le_trans, All, Contains}
 use Rattle.std.proofs.lemmas.List.Elements.{All-weaker, All-contains}
-use Rattle.std.proofs.lemmas.List.Sums.{sum_by-set}
 use mathlib.Core.Option.{some, some-ne-none, some-injective}
 use mathlib.Core.Logic.{dite}
 use native.Mathlib.Decide.{ℕ_discrete}
@@ -16,14 +14,6 @@ use Rattle.plan_rule.specs.Reports.{IsBar}
 use Rattle.plan_rule.specs.Yards.{choices}
 use Rattle.incumbent_word.specs.declared.rule.View.{View}
 use Rattle.incumbent_word.specs.Rule.{Content, best_key, EachView, HasYard, IsLeast, IsOffered, WasOffered, IsKept}
-
-pub there : {A : Type 0} (l : List A) (i : ℕ) (a : A) → get_elem? l i ≡ some a → (i < length l) × (get_or l i a ≡ a)
-there [] i a e = absurd (some-ne-none a (sym e))
-there (x ∷ xs) zero a e = (omega arith, some-injective x a e)
-there (x ∷ xs) (suc i) a e = let r = there xs i a e in (omega arith, r.1)
-
-pub sum_set : {A : Type 0} (f : A → ℕ) (l : List A) (i : ℕ) (v w : A) → get_elem? l i ≡ some v → sum_by f (set l i w) + f v ≡ sum_by f l + f w
-sum_set f l i v w e = let r = there l i v e in ap (λ x. sum_by f (set l i w) + f x) (sym r.1) ∙ sum_by-set f l i w v r.0
 
 pub at_here : (views : List View) (id : ℕ) (v w : View) → get_elem? views id ≡ some v → get_elem? (set views id w) id ≡ some w
 at_here [] id v w at = absurd (some-ne-none v (sym at))

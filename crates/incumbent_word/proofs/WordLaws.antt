@@ -8,6 +8,7 @@ use mathlib.Core.Logic.{dite}
 use native.Mathlib.Decide.{dec_le}
 use lib.ListN.{get_elem?}
 use Rattle.atomic_table.specs.Table.{State, Allows, keeps}
+use Rattle.common_lists.proofs.ListLaws.{sum_set}
 use Rattle.shape_exact.specs.Yards.{PlainYard}
 use Rattle.plan_rule.specs.Plans.{IsFeasible}
 use Rattle.plan_rule.specs.Paths.{key}
@@ -15,9 +16,9 @@ use Rattle.plan_rule.specs.Reports.{IsBar}
 use Rattle.plan_rule.specs.Yards.{choices}
 use Rattle.incumbent_word.specs.declared.rule.View.{View}
 use Rattle.incumbent_word.specs.Views.{saw, offered_too}
-use Rattle.incumbent_word.specs.Rule.{Content, best_key, home_of, holds_turn, IsOffered, IsTurn, IsGood, IsKept}
+use Rattle.incumbent_word.specs.Rule.{Content, best_key, home_of, holds_turn, IsOffered, IsTurn, IsKept}
 use Rattle.incumbent_word.specs.Plays.{Mine, Saw, Offered, IsLow}
-use Rattle.incumbent_word.proofs.ViewLaws.{sum_set, at_here, lower, fits, fits_set, offered_set, is_bar, Fits}
+use Rattle.incumbent_word.proofs.ViewLaws.{at_here, lower, fits, fits_set, offered_set, is_bar, Fits}
 
 module _ (yard : PlainYard) where
   -- the best key falls, or stays

@@ -14,6 +14,8 @@ use Rattle.shape_exact.specs.Plane.{Every, Some_of}
 use Rattle.shape_exact.proofs.LineLaws.{every_then}
 use Rattle.shape_exact.proofs.SumLaws.{every_map, some_then}
 use Rattle.shape_exact.proofs.MoveLaws.{some_map}
+use Rattle.shape_exact.proofs.MeetLaws.{every_append}
+use Rattle.minkowski_obstacles.proofs.SideLaws.{some_left, some_right}
 use Rattle.lattice_free.specs.declared.run.Run.{Run}
 use Rattle.lattice_free.specs.declared.forbidden.Forbidden.{Forbidden}
 use Rattle.lattice_free.specs.Order.{IsBefore}
@@ -22,22 +24,9 @@ use Rattle.lattice_free.specs.Grid.{Rises}
 use Rattle.lattice_free.specs.Gaps.{run_between, gaps, FitsWithin, Misses}
 
 -- ---- lists
-pub every_append : {A : Type 0} (P : A → Type 0) (xs ys : List A) → Every P xs → Every P ys → Every P (xs ++ ys)
-every_append P [] ys h k = k
-every_append P (x ∷ xs) ys h k = (h.0, every_append P xs ys h.1 k)
-
 pub rises-append : (xs ys : List Point) → Rises xs → Rises ys → Every (λ x. Every (IsBefore x) ys) xs → Rises (xs ++ ys)
 rises-append [] ys h k b = k
 rises-append (x ∷ xs) ys h k b = (every_append (IsBefore x) xs ys h.0 b.0, rises-append xs ys h.1 k b.1)
-
-pub some_left : {A : Type 0} (P : A → Type 0) (xs ys : List A) → Some_of P xs → Some_of P (xs ++ ys)
-some_left P [] ys h = absurd h
-some_left P (x ∷ xs) ys (inl h) = inl h
-some_left P (x ∷ xs) ys (inr h) = inr (some_left P xs ys h)
-
-pub some_right : {A : Type 0} (P : A → Type 0) (xs ys : List A) → Some_of P ys → Some_of P (xs ++ ys)
-some_right P [] ys h = h
-some_right P (x ∷ xs) ys h = inr (some_right P xs ys h)
 
 -- ---- the columns of a run
 range_sound : (a n : ℕ) → Every (λ k. (a ≤ k) × (k < a + n)) (range_with_len a n)

@@ -13,8 +13,9 @@ use Rattle.shape_exact.specs.Shapes.{AreApart, reach_x, reach_y}
 use Rattle.shape_exact.specs.Plane.{Every, Some_of}
 use Rattle.shape_exact.proofs.LineLaws.{every_then}
 use Rattle.shape_exact.proofs.BridgeLaws.{every_from_All}
+use Rattle.shape_exact.proofs.MeetLaws.{every_append}
 use Rattle.minkowski_obstacles.specs.Pairs.{Pair}
-use Rattle.minkowski_obstacles.proofs.SideLaws.{all_from_every, contains_from}
+use Rattle.minkowski_obstacles.proofs.SideLaws.{all_from_every, contains_from, some_left, some_right}
 use Rattle.lattice_free.specs.declared.run.Run.{Run}
 use Rattle.lattice_free.specs.declared.forbidden.Forbidden.{Forbidden}
 use Rattle.lattice_free.specs.Order.{IsBefore}
@@ -23,7 +24,7 @@ use Rattle.lattice_free.specs.Gaps.{gaps, FitsWithin, Misses}
 use Rattle.lattice_free.specs.Clear.{AreClear, AreForbidden}
 use Rattle.lattice_free.specs.FreePositions.{IsFree, AreFree}
 use Rattle.lattice_free.specs.Grid.{Rises, IsPlaced, IsGrid}
-use Rattle.lattice_free.proofs.GapLaws.{Ascends, IsGap, Sound, every_append, rises-append, some_left, some_right, gaps_sound, gaps_complete, gaps_rise, gaps_few, gaps_run}
+use Rattle.lattice_free.proofs.GapLaws.{Ascends, IsGap, Sound, rises-append, gaps_sound, gaps_complete, gaps_rise, gaps_few, gaps_run}
 use Rattle.lattice_free.proofs.ForbidLaws.{ascends_from}
 use lib.IntN.{ℤ, pos, ◌+ℤ◌}
 use lib.Signed.{◌<ℤ◌, ◌≤ℤ◌}

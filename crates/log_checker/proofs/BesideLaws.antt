@@ -1,33 +1,18 @@
 -- What a box fixes, and which literals it has, with a literal more.
-use Rattle.std.proofs.Common.{◌≡◌, ◌≢◌, ℕ, ◌+◌, ◌<◌, List, [], ◌∷◌, ◌++◌, Bool, true, false, cond, Option, Some, None, ◌⊎◌, refl, sym, ap, ◌∙◌, inl, inr, arith}
+use Rattle.std.proofs.Common.{◌≡◌, ◌≢◌, ℕ, ◌+◌, ◌<◌, List, [], ◌∷◌, Bool, true, false, cond, Option, Some, None, ◌⊎◌, refl, sym, ap, ◌∙◌, inl, inr, arith}
 use Rattle.std.specs.Prelude.{nat_lt, ◌==◌, ◌↔◌, if◌then◌else◌}
 use Rattle.std.specs.List.{All, Contains, filter}
 use Rattle.std.proofs.lemmas.Bool.{cases_Bool, cases_order, lt-ltb, le-ltb, eq-eqb, ne_eqb, cond-true, cond-false, true≢false}
-use Rattle.std.proofs.lemmas.List.Elements.{All-contains, All-contains_itself, All-filter, All-cons, All-nil, All-head, All-tail, All-weaker, filter_passes, Contains-append_left, Contains-append_right, Contains-append_cases}
+use Rattle.std.proofs.lemmas.List.Elements.{All-contains, All-contains_itself, All-filter, All-cons, All-nil, All-weaker, filter_passes, Contains-append_left, Contains-append_right, Contains-append_cases}
 use Rattle.plan_rule.specs.declared.literal.Literal.{Literal}
 use Rattle.plan_rule.specs.Boxes.{LeavesFree, exact_code, exact, with_literal}
+use Rattle.plan_rule.proofs.ExactLaws.{passed, in_front}
+use Rattle.plan_rule.proofs.WithLaws.{with_self}
 use Rattle.log_checker.specs.Ties.{IsAbove}
 
 -- the code of a literal of one code
 abbrev code_alone : Literal → Option ℕ
 code_alone l = if l.hi == l.lo + 1 then Some l.lo else None
-
--- literals on other blocks say nothing of a block
-passed : (xs ys : List Literal) (a : ℕ) → LeavesFree xs a → exact_code (xs ++ ys) a ≡ exact_code ys a
-passed [] ys a free = refl
-passed (l ∷ xs) ys a free =
-    cond-false (l.block == a) (code_alone l) (exact_code (xs ++ ys) a) (ne_eqb l.block a (All-head (λ l. l.block ≢ a) l xs free))
-    ∙ passed xs ys a (All-tail (λ l. l.block ≢ a) l xs free)
-
-pub nothing_exact : (xs : List Literal) (a : ℕ) → LeavesFree xs a → exact_code xs a ≡ None
-nothing_exact [] a free = refl
-nothing_exact (l ∷ xs) a free =
-    cond-false (l.block == a) (code_alone l) (exact_code xs a) (ne_eqb l.block a (All-head (λ l. l.block ≢ a) l xs free))
-    ∙ nothing_exact xs a (All-tail (λ l. l.block ≢ a) l xs free)
-
-in_front : (xs ys : List Literal) (a : ℕ) → LeavesFree ys a → exact_code (xs ++ ys) a ≡ exact_code xs a
-in_front [] ys a free = nothing_exact ys a free
-in_front (l ∷ xs) ys a free = ap (λ o. if l.block == a then code_alone l else o) (in_front xs ys a free)
 
 -- a filter that keeps the literals on a block keeps what is exact there
 kept : (test : ℕ → Bool) (box : List Literal) (a : ℕ) → test a ≡ true → exact_code (filter (λ m. test m.block) box) a ≡ exact_code box a
@@ -126,11 +111,6 @@ has_still box l m inside ne =
       ]
     ]
 
-has_new : (box : List Literal) (l : Literal) → Contains (with_literal box l) l
-has_new box l =
-    Contains-append_right (filter (λ m. nat_lt m.block l.block) box) (l ∷ filter (λ m. nat_lt l.block m.block) box) l
-    (Contains-append_left (l ∷ []) (filter (λ m. nat_lt l.block m.block) box) l (0, omega arith, refl))
-
 -- a literal more is above no code of another block
 pub above_other : (box : List Literal) (l : Literal) (a d : ℕ) → a ≢ l.block → IsAbove (with_literal box l) a d ↔ IsAbove box a d
 above_other box l a d ne = (
@@ -150,5 +130,5 @@ above_same box b code d free = (
     | inl old ↦ absurd (All-contains (λ l. l.block ≢ b) box m free old at)
     | inr new ↦ let e : code ≡ m.lo = ap (λ (x : Literal). x.lo) new in omega arith
   ],
-  λ less. let new = has_new box (exact b code) in (new.0, exact b code, new.1, new.2, (refl, less)),
+  λ less. let new = with_self box (exact b code) in (new.0, exact b code, new.1, new.2, (refl, less)),
 )

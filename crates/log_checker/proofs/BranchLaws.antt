@@ -1,12 +1,12 @@
 -- What covers a code of a branch: an exact block that its placement clashes with, the cut, or a span.
 use Rattle.std.proofs.Common.{ℕ, ◌<◌, ◌≤◌, List, Option, Some, None, inl, inr, arith}
 use Rattle.std.specs.Prelude.{◌↔◌, MatchOption}
+use Rattle.common_lists.proofs.ListLaws.{element_at}
 use Rattle.shape_exact.specs.Yards.{PlainYard}
 use Rattle.code_table.specs.Placements.{placements}
 use Rattle.plan_rule.specs.declared.literal.Literal.{Literal}
 use Rattle.plan_rule.specs.Choices.{blocks, count, IsCode}
 use Rattle.plan_rule.specs.Yards.{choices}
-use Rattle.plan_rule.proofs.ClashLaws.{element}
 use Rattle.plan_rule.proofs.CountLaws.{code_exists}
 use Rattle.refutation_log.specs.declared.record.Record.{Record}
 use Rattle.refutation_log.specs.Steps.{IsCovered, IsRange}
@@ -38,7 +38,7 @@ settled_covered yard t earlier side cites b cut exacts spans cuts are cited code
   ],
   λ h. elim h [
     | inl clash ↦
-        let (p, at) = element (placements yard b) code (code_exists yard b code is) in
+        let (p, at) = element_at (placements yard b) code (code_exists yard b code is) in
         inl (inl (p, at, (met_or_clash yard side exacts b code p are at).1 clash))
     | inr others ↦ elim others [
       | inl piece ↦ inl (inr piece)

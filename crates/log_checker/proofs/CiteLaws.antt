@@ -1,12 +1,13 @@
 -- The spans of the codes that cited records cover, record by record.
 use Rattle.std.proofs.Common.{◌≡◌, ℕ, ◌<◌, ◌≤◌, List, [], ◌∷◌, ◌++◌, ◌+◌, length, get_or, take, refl, Option, Some, ◌⊎◌, sym, ap, ◌∙◌, subst, inl, inr}
 use Rattle.std.specs.Prelude.{◌↔◌, slice_get}
-use Rattle.std.specs.List.{All, Any}
+use Rattle.std.specs.List.{All}
 use Rattle.std.specs.List.Sorted.{IsPermutation}
 use Rattle.std.proofs.lemmas.Option.{same_Some, slice_get_read}
 use Rattle.std.proofs.lemmas.List.{take_all, take_more}
 use Rattle.std.proofs.lemmas.List.Elements.{Contains-append_left, Contains-push, Contains-push_cases}
-use Rattle.std.proofs.lemmas.List.Sorted.{Contains-permutation, IsPermutation-sym}
+use Rattle.std.proofs.lemmas.List.Sorted.{IsPermutation-sym}
+use Rattle.common_lists.proofs.ListLaws.{any_permuted}
 use Rattle.plan_rule.specs.declared.literal.Literal.{Literal}
 use Rattle.plan_rule.specs.Choices.{Choices}
 use Rattle.plan_rule.specs.Boxes.{Covers, exact, with_literal}
@@ -46,10 +47,6 @@ cited_next c earlier all cites side b spans more i r span same below within read
     let at = slice_get_read earlier (length earlier) (get_or cites i 0) r refl exists read in
     subst (λ ks. AreCited c earlier ks side b more) (sym (take_more cites i 0 within))
     (cited_more c earlier (take i cites) side b spans more (get_or cites i 0) r span at of' grows are)
-
-any_permuted : {X : Type 0} (P : X → Type 0) (xs ys : List X) → IsPermutation xs ys → Any P xs → Any P ys
-any_permuted P xs ys same (k, x, within, is, p) =
-    let (j, inside, at) = Contains-permutation xs ys x same (k, within, is) in (j, x, inside, at, p)
 
 -- in another order
 pub cited_same : (c : Choices) (earlier : List Record) (cites : List ℕ) (side : List Literal) (b : ℕ) (spans others : List Span)

@@ -1,10 +1,11 @@
 -- The blocks that a side fixes, literal by literal, and what they clash with.
-use Rattle.std.proofs.Common.{◌≡◌, ℕ, zero, suc, ◌<◌, ◌≤◌, List, [], ◌∷◌, ◌++◌, length, get_or, take, ◌+◌, Bool, true, false, Some, refl, sym, ap, ◌∙◌, subst, inl, inr, arith}
+use Rattle.std.proofs.Common.{◌≡◌, ℕ, ◌<◌, ◌≤◌, List, [], ◌∷◌, ◌++◌, length, get_or, take, ◌+◌, Bool, true, false, Some, refl, sym, ap, ◌∙◌, subst, inl, inr, arith}
 use Rattle.std.specs.Prelude.{slice_get, IsTrue, not, ◌↔◌, All, Contains}
 use Rattle.std.proofs.lemmas.Bool.{false≢true}
-use Rattle.std.proofs.lemmas.Option.{same_Some, slice_get-get_or, slice_get_within}
+use Rattle.std.proofs.lemmas.Option.{same_Some, slice_get-get_or}
 use Rattle.std.proofs.lemmas.List.{take_more}
 use Rattle.std.proofs.lemmas.List.Elements.{Contains-append_left, Contains-push, Contains-push_cases}
+use Rattle.common_lists.proofs.ListLaws.{element_at}
 use Rattle.shape_exact.specs.Yards.{PlainYard}
 use Rattle.shape_exact.specs.Shapes.{AreApart, turned}
 use Rattle.shape_exact.specs.declared.block.Block.{Block}
@@ -16,8 +17,8 @@ use Rattle.plan_rule.specs.Boxes.{IsAscending, IsBox, IsLiteral, HasExact, exact
 use Rattle.plan_rule.specs.Clashes.{MayClash, PlacementsClash, place_of}
 use Rattle.plan_rule.specs.Yards.{choices}
 use Rattle.plan_rule.proofs.BehindLaws.{fixes_at, exact_has}
-use Rattle.plan_rule.proofs.ClashLaws.{element}
 use Rattle.plan_rule.proofs.CountLaws.{block_exists, count-length}
+use Rattle.plan_rule.proofs.ExactLaws.{place-le-block}
 use Rattle.log_checker.specs.declared.exact.Exact.{Exact}
 use Rattle.log_checker.specs.ExactBlocks.{AreExact, ClashesAt, ClashesWithOne}
 
@@ -29,16 +30,6 @@ exact_at b p = record { block = b; place = p }
 abbrev pub ExactTo : PlainYard → List Literal → List Exact → Type 0
 ExactTo yard literals list =
     (f : Exact) → Contains list f ↔ ((d : ℕ) × Contains literals (exact f.block d) × (slice_get (placements yard f.block) d ≡ Some f.place))
-
--- in ascending order no literal is past its block
-pub place-le-block : (box : List Literal) (k : ℕ) (l : Literal) → IsAscending box → slice_get box k ≡ Some l → k ≤ l.block
-place-le-block box zero l up at = omega arith
-place-le-block box (suc k) l up at =
-    let within = slice_get_within box (suc k) l at in
-    let (m, here) = element box k (omega arith) in
-    let low = place-le-block box k m up here in
-    let less = up k (suc k) m l (omega arith) here at in
-    omega arith
 
 -- a literal of one code more
 exact_more : (yard : PlainYard) (literals : List Literal) (list : List Exact) (l : Literal) (p : Placement) → l ≡ exact l.block l.lo
@@ -129,8 +120,8 @@ met_by_places yard f b p first second true s may told = (
       (subst (λ g. AreApart first (place_of f.place) g (place_of p)) (s.second_is m.two m.two_is) (told.0 refl)))),
 )
 met_by_places yard f b p first second false s may told =
-    let (one, one_is) = element yard.blocks f.block s.first_block in
-    let (two, two_is) = element yard.blocks b s.second_block in (
+    let (one, one_is) = element_at yard.blocks f.block s.first_block in
+    let (two, two_is) = element_at yard.blocks b s.second_block in (
       λ t. record {
         one = one;
         two = two;

@@ -2,6 +2,7 @@
 use Rattle.std.proofs.Common.{◌≡◌, ℕ, zero, suc, ◌+◌, ◌<◌, ◌≤◌, List, Option, Some, None, ◌⊎◌, refl, sym, ◌∙◌, subst, inl, inr, arith}
 use Rattle.std.proofs.lemmas.Bool.{cases_lt, cases_eq}
 use Rattle.std.proofs.lemmas.Option.{none-some, same_Some}
+use Rattle.common_lists.proofs.NumberLaws.{all_or_not}
 use Rattle.plan_rule.specs.declared.literal.Literal.{Literal}
 use Rattle.plan_rule.specs.Choices.{Choices, MeetsSome, blocks, count}
 use Rattle.plan_rule.specs.Boxes.{HasExact, exact_code, IsBox}
@@ -9,20 +10,6 @@ use Rattle.plan_rule.specs.Bounds.{IsLeastOf, IsBound, IsFit, MayFit, MayTake}
 use Rattle.plan_rule.proofs.BoundLaws.{held_block}
 use Rattle.plan_rule.proofs.ExistLaws.{IsDecided}
 use Rattle.log_checker.specs.Leasts.{Below}
-
--- what can be told of each number below n can be told of all of them
-all_told : (P : ℕ → Type 0) (n : ℕ) → ((k : ℕ) → P k ⊎ (P k → ⊥)) → ((k : ℕ) → k < n → P k) ⊎ (((k : ℕ) → k < n → P k) → ⊥)
-all_told P zero told = inl (λ k l. absurd (omega arith))
-all_told P (suc n) told = elim (all_told P n told) [
-  | inr broken ↦ inr (λ h. broken (λ k l. h k (omega arith)))
-  | inl below ↦ elim (told n) [
-    | inr broken ↦ inr (λ h. broken (h n (omega arith)))
-    | inl here ↦ inl (λ k l. elim (cases_lt k n) [
-      | inl less ↦ below k less
-      | inr same ↦ subst P (let e : n ≡ k = omega arith in e) here
-    ])
-  ]
-]
 
 -- no code to which the side fixes this block clashes with the code
 abbrev pub IsClearOf : Choices → List Literal → ℕ → ℕ → ℕ → Type 0
@@ -43,7 +30,7 @@ FitsFree c side b code = exact_code side b ≡ None → (a d : ℕ) → HasExact
 free_told : (c : Choices) (side : List Literal) (b code : ℕ) (o : Option ℕ) → IsDecided c → IsBox c side → exact_code side b ≡ o
     → FitsFree c side b code ⊎ (FitsFree c side b code → ⊥)
 free_told c side b code (Some d) told box e = inl (λ free. absurd (none-some d (sym free ∙ e)))
-free_told c side b code None told box e = elim (all_told (IsClearOf c side b code) (blocks c) (λ a. clear_told c side b code a (exact_code side a) told refl)) [
+free_told c side b code None told box e = elim (all_or_not (IsClearOf c side b code) (blocks c) (λ a. clear_told c side b code a (exact_code side a) told refl)) [
   | inl clear ↦ inl (λ free a d fix. clear a (held_block c side a d box fix) d fix)
   | inr broken ↦ inr (λ fits. broken (λ a l. fits e a))
 ]

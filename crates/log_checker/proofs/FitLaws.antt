@@ -11,10 +11,10 @@ use Rattle.plan_rule.specs.Yards.{choices}
 use Rattle.plan_rule.proofs.CountLaws.{blocks-length, cost_is}
 use Rattle.plan_rule.proofs.LimitLaws.{cost-le}
 use Rattle.plan_rule.proofs.UniqueLaws.{bound_unique}
+use Rattle.plan_rule.proofs.RestLaws.{least_at, sum_more}
 use Rattle.log_checker.specs.declared.claim.Claim.{Claim}
 use Rattle.log_checker.specs.Claims.{IsClaim, plan_of}
 use Rattle.log_checker.specs.Leasts.{IsFitUpTo}
-use Rattle.log_checker.proofs.LeastLaws.{sum_more}
 
 same_sum : (May : ℕ → ℕ → Type 0) (cost : ℕ → ℕ → ℕ) (n i j k : ℕ) → i ≡ n → IsSumOfLeast May cost i j → IsSumOfLeast May cost n k → j ≡ k
 same_sum May cost n i j k e h g = same_Some j k (bound_unique May cost n (Some j) (Some k) (subst (λ i. IsSumOfLeast May cost i j) e h) g)
@@ -39,14 +39,6 @@ ahead A B cost (suc n) i k j s t sub l hk hj hs ht = elim (cases_lt i (suc n)) [
       let (x, may, is) = lm.0 in let b = lo.1 x (sub n x may) in omega arith
   | inr same ↦
       let e = same_sum A cost (suc n) i s k (omega arith) hs hk in let f = same_sum B cost (suc n) i t j (omega arith) ht hj in omega arith
-]
-
--- each block has a least
-pub least_at : (May : ℕ → ℕ → Type 0) (cost : ℕ → ℕ → ℕ) (n i k : ℕ) → i < n → IsSumOfLeast May cost n k → (m : ℕ) × IsLeastOf (May i) (cost i) (Some m)
-least_at May cost zero i k l h = absurd (omega arith)
-least_at May cost (suc n) i k l (s, m, hs, hm, e) = elim (cases_lt i n) [
-  | inl less ↦ least_at May cost n i s less hs
-  | inr same ↦ (m, subst (λ i. IsLeastOf (May i) (cost i) (Some m)) (let e : n ≡ i = omega arith in e) hm)
 ]
 
 -- where no cost is above a number

@@ -1,36 +1,16 @@
 -- The least cost of a block's codes, code by code.
-use Rattle.std.proofs.Common.{◌≡◌, ℕ, ◌+◌, ◌<◌, ◌≤◌, List, length, Option, Some, None, refl, sym, ◌∙◌, subst, inl, inr, arith, true, false, add-one}
-use Rattle.std.specs.Prelude.{Bool, IfSome, IfNone, if◌then◌else◌, nat_le}
+use Rattle.std.proofs.Common.{◌≡◌, ℕ, ◌<◌, ◌≤◌, List, Option, Some, None, refl, sym, ◌∙◌, subst, inl, inr, arith, true, false}
+use Rattle.std.specs.Prelude.{Bool, if◌then◌else◌, nat_le}
 use Rattle.std.proofs.lemmas.Bool.{cases_lt, leb-true, leb-false, ltb-true, ltb-false, le-leb, lt-ltb}
 use Rattle.std.proofs.lemmas.Option.{none-some}
 use Rattle.shape_exact.specs.Yards.{PlainYard}
-use Rattle.code_table.specs.Placements.{own_cost, placements}
-use Rattle.code_table.specs.Costs.{IsAtMostEachCost, IsCostOfSome}
+use Rattle.code_table.specs.Placements.{own_cost}
 use Rattle.plan_rule.specs.declared.literal.Literal.{Literal}
-use Rattle.plan_rule.specs.Choices.{blocks, count}
 use Rattle.plan_rule.specs.Boxes.{HasExact, IsBox}
-use Rattle.plan_rule.specs.Bounds.{IsLeastOf, IsSumOfLeast, MayFit}
+use Rattle.plan_rule.specs.Bounds.{IsLeastOf, MayFit}
 use Rattle.plan_rule.specs.Yards.{choices}
-use Rattle.plan_rule.proofs.CountLaws.{block_exists, count-length, cost_is}
+use Rattle.plan_rule.proofs.RestLaws.{least_exact}
 use Rattle.log_checker.specs.Leasts.{Below, IsLeastFit, IsLeastUpTo, is_better}
-use Rattle.log_checker.proofs.RestLaws.{least_exact}
-
--- the least cost of a block's codes
-pub least_of_codes : (yard : PlainYard) (b : ℕ) (o : Option ℕ) → b < blocks (choices yard) → IfNone o (length (placements yard b) ≡ 0)
-    → IfSome o (IsAtMostEachCost yard b) → IfSome o (IsCostOfSome yard b)
-    → IsLeastOf (λ code. code < count (choices yard) b) ((choices yard).cost b) o
-least_of_codes yard b None l none low some = λ x m. let n = count-length yard b (block_exists yard b l) in absurd (omega arith)
-least_of_codes yard b (Some m) l none low some =
-    let n = count-length yard b (block_exists yard b l) in
-    let (x, within, cost) = some in (
-      (x, omega arith, cost_is yard b x ∙ cost),
-      λ y k. let a = low y (omega arith) in let e = cost_is yard b y in omega arith,
-    )
-
--- one block more
-pub sum_more : (May : ℕ → ℕ → Type 0) (cost : ℕ → ℕ → ℕ) (i s m : ℕ) → IsSumOfLeast May cost i s → IsLeastOf (May i) (cost i) (Some m)
-    → IsSumOfLeast May cost (i + 1) (s + m)
-sum_more May cost i s m h k = rw add-one (s, m, h, k, refl)
 
 -- some numbers of one value, which is better, and one of them with the property: that value is the new least
 pub least_take : (P : ℕ → Type 0) (value : ℕ → ℕ) (limit n m v : ℕ) (best : Option ℕ) → IsLeastUpTo (Below P n) value limit best

@@ -8,6 +8,7 @@ use Rattle.std.proofs.lemmas.Option.{same_Some}
 use Rattle.std.proofs.lemmas.List.{take_more}
 use Rattle.std.proofs.lemmas.List.Quantifiers.{Any-push}
 use Rattle.std.proofs.lemmas.List.Elements.{Contains-append_left, Contains-push_cases}
+use Rattle.common_lists.proofs.ListLaws.{both_true}
 use Rattle.shape_exact.specs.Yards.{PlainYard}
 use Rattle.code_table.specs.declared.placement.Placement.{Placement}
 use Rattle.code_table.specs.declared.stretch.Stretch.{Stretch}
@@ -26,7 +27,7 @@ use Rattle.log_checker.specs.NearPieces.{AreNear}
 use Rattle.log_checker.specs.Offsets.{AreSoApart, offset_of}
 use Rattle.log_checker.specs.Walks.{CodeClashes}
 use Rattle.log_checker.proofs.NearPieceLaws.{met_near}
-use Rattle.log_checker.proofs.OffsetLaws.{both, met_so}
+use Rattle.log_checker.proofs.OffsetLaws.{met_so}
 
 -- bits that tell of the first codes, and are 0 from there on
 pub record TellFirst (yard : PlainYard) (f : Exact) (b : ℕ) (s : Stretch) (lo n bits : ℕ) : Type 0 where
@@ -103,15 +104,15 @@ pub same_beside : (o p : Beside)
     && (nat_eq o.skipped p.skipped && nat_eq o.count p.count))))))))) ≡ true
     → o ≡ p
 same_beside o p e =
-    let a = both _ _ e in
-    let b = both _ _ a.1 in
-    let c = both _ _ b.1 in
-    let d = both _ _ c.1 in
-    let f = both _ _ d.1 in
-    let g = both _ _ f.1 in
-    let h = both _ _ g.1 in
-    let i = both _ _ h.1 in
-    let j = both _ _ i.1 in
+    let a = both_true _ _ e in
+    let b = both_true _ _ a.1 in
+    let c = both_true _ _ b.1 in
+    let d = both_true _ _ c.1 in
+    let f = both_true _ _ d.1 in
+    let g = both_true _ _ f.1 in
+    let h = both_true _ _ g.1 in
+    let i = both_true _ _ h.1 in
+    let j = both_true _ _ i.1 in
     ap (λ n. made n o.first_turn o.y o.x o.second o.second_turn o.columns o.pitch o.skipped o.count) (eqb-true _ _ a.0)
     ∙ ap (λ n. made p.first n o.y o.x o.second o.second_turn o.columns o.pitch o.skipped o.count) (eqb-true _ _ b.0)
     ∙ ap (λ n. made p.first p.first_turn n o.x o.second o.second_turn o.columns o.pitch o.skipped o.count) (eqb-true _ _ c.0)

@@ -4,6 +4,7 @@ use Rattle.std.specs.Prelude.{◌↔◌, IsTrue, All, Contains, slice_get}
 use Rattle.std.proofs.lemmas.Bool.{cases_lt}
 use Rattle.std.proofs.lemmas.Option.{same_Some, slice_get_within}
 use Rattle.std.proofs.lemmas.List.Elements.{Contains-get_or, Contains-append_left, Contains-push, Contains-push_cases}
+use Rattle.common_lists.proofs.ListLaws.{element_at}
 use Rattle.shape_exact.specs.Yards.{PlainYard}
 use Rattle.shape_exact.specs.declared.block.Block.{Block}
 use Rattle.shape_exact.specs.declared.fixed.Fixed.{Fixed}
@@ -12,7 +13,6 @@ use Rattle.code_table.specs.Placements.{placements}
 use Rattle.plan_rule.specs.Choices.{MeetsSome}
 use Rattle.plan_rule.specs.Clashes.{MayMeetPiece, MeetPiece}
 use Rattle.plan_rule.specs.Yards.{choices}
-use Rattle.plan_rule.proofs.ClashLaws.{element}
 use Rattle.log_checker.specs.NearPieces.{AreNear, IsNearPiece, MeetsAt, MeetsOne}
 
 -- the near ones of the first pieces
@@ -65,7 +65,7 @@ near_exist yard p list h k d within =
 pub met_at : (yard : PlainYard) (b i : ℕ) (p : Placement) (f : Fixed) (t : Bool) → b < length yard.blocks → slice_get yard.fixed i ≡ Some f
     → ((block : Block) → slice_get yard.blocks b ≡ Some block → IsTrue t ↔ MeetPiece block p f) → IsTrue t ↔ MeetsAt yard b p i
 met_at yard b i p f t l at told = (
-  λ h. let (block, is) = element yard.blocks b l in
+  λ h. let (block, is) = element_at yard.blocks b l in
       record { block = block; piece = f; block_is = is; piece_is = at; meet = (told block is).0 h },
   λ m. (told m.block m.block_is).1 (subst (MeetPiece m.block p) (same_Some m.piece f (sym m.piece_is ∙ at)) m.meet),
 )

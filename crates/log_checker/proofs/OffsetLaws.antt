@@ -1,9 +1,9 @@
 -- Footprints that are apart stay so when both are shifted alike, so that their offset tells it.
-use Rattle.std.proofs.Common.{◌≡◌, ℕ, ◌<◌, ◌≤◌, List, Bool, true, false, Some, refl, sym, ap, ◌∙◌, subst, arith}
-use Rattle.std.specs.Prelude.{length, slice_get, unsigned_abs, IsTrue, not, ◌↔◌, ◌&&◌}
+use Rattle.std.proofs.Common.{◌≡◌, ℕ, ◌<◌, ◌≤◌, List, Bool, Some, sym, ap, ◌∙◌, subst, arith}
+use Rattle.std.specs.Prelude.{length, slice_get, unsigned_abs, IsTrue, not, ◌↔◌}
 use Rattle.std.proofs.lemmas.Option.{same_Some}
 use Rattle.std.proofs.lemmas.Int.{ints}
-use Rattle.std.proofs.lemmas.Bool.{false≢true}
+use Rattle.common_lists.proofs.ListLaws.{element_at}
 use Rattle.shape_exact.specs.Yards.{PlainYard}
 use Rattle.shape_exact.specs.Shapes.{AreApart, Spot, is_inside, origin, turned}
 use Rattle.shape_exact.specs.Cells.{moved_spot}
@@ -14,7 +14,6 @@ use Rattle.shape_exact.proofs.ApartLaws.{inside-moved}
 use Rattle.shape_exact.proofs.RingLaws.{linear}
 use Rattle.code_table.specs.declared.placement.Placement.{Placement}
 use Rattle.plan_rule.specs.Clashes.{MayClash, place_of}
-use Rattle.plan_rule.proofs.ClashLaws.{element}
 use Rattle.log_checker.specs.declared.exact.Exact.{Exact}
 use Rattle.log_checker.specs.declared.offset.Offset.{Offset}
 use Rattle.log_checker.specs.ExactBlocks.{ClashesAt, IsStanding}
@@ -61,8 +60,8 @@ apart_here a b p q h s n first second =
 pub met_so : (yard : PlainYard) (f : Exact) (b : ℕ) (p : Placement) (apart : Bool) → f.block < length yard.blocks → b < length yard.blocks
     → MayClash f.place p → (IsTrue apart ↔ AreSoApart yard (offset_of f b p)) → IsTrue (not apart) ↔ ClashesAt yard f b p
 met_so yard f b p apart first second may told =
-    let (one, one_is) = element yard.blocks f.block first in
-    let (two, two_is) = element yard.blocks b second in
+    let (one, one_is) = element_at yard.blocks f.block first in
+    let (two, two_is) = element_at yard.blocks b second in
     met_by_places yard f b p (turned f.place.turn one.shape) (turned p.turn two.shape) apart
     (record {
       first_block = first;
@@ -106,8 +105,8 @@ pub so_apart : (yard : PlainYard) (o : Offset) (first second : List Point) (apar
     → ((b : Block) → slice_get yard.blocks o.second ≡ Some b → second ≡ turned o.second_turn b.shape)
     → (IsTrue apart ↔ AreApart first origin second o.way) → IsTrue apart ↔ AreSoApart yard o
 so_apart yard o first second apart is first_is second_is told =
-    let (one, one_is) = element yard.blocks o.first is.first in
-    let (two, two_is) = element yard.blocks o.second is.second in (
+    let (one, one_is) = element_at yard.blocks o.first is.first in
+    let (two, two_is) = element_at yard.blocks o.second is.second in (
       λ t. record {
         one = one;
         two = two;
@@ -119,7 +118,3 @@ so_apart yard o first second apart is first_is second_is told =
       λ so. told.1 (subst (λ g. AreApart g origin second o.way) (sym (first_is so.one so.one_is))
           (subst (λ g. AreApart (turned o.first_turn so.one.shape) origin g o.way) (sym (second_is so.two so.two_is)) so.shapes)),
     )
-
-pub both : (s t : Bool) → (s && t) ≡ true → (s ≡ true) × (t ≡ true)
-both true t e = (refl, e)
-both false t e = absurd (false≢true e)

@@ -9,28 +9,22 @@ use Rattle.shape_exact.specs.Days.{has_day}
 use Rattle.shape_exact.specs.Yards.{PlainYard, IsYard}
 use Rattle.shape_exact.specs.declared.block.Block.{Block}
 use Rattle.plate_calendar.specs.Calendars.{open_days, end_of}
-use Rattle.plate_calendar.proofs.DayLaws.{one_if, count-sum, end_law}
+use Rattle.plate_calendar.proofs.DayLaws.{one_if, count-sum, end_law, and_last_false}
 use Rattle.code_table.specs.declared.placement.Placement.{Placement}
-use Rattle.code_table.specs.Orders.{AreAscending, ComesBefore}
+use Rattle.code_table.specs.Orders.{AreAscending}
 use Rattle.code_table.specs.Placements.{placements, cost_of, cost_on}
+use Rattle.code_table.proofs.EndLaws.{first_start}
+use Rattle.code_table.proofs.ReadLaws.{block_limits}
 use Rattle.plan_rule.specs.Choices.{IsCode}
 use Rattle.plan_rule.specs.Yards.{choices}
 use Rattle.plan_rule.proofs.CountLaws.{cost_is}
-use Rattle.plan_rule.proofs.YardLaws.{block_of, coded}
-
-one_at_most : (b : Bool) → one_if b ≤ 1
-one_at_most true = omega arith
-one_at_most false = omega arith
+use Rattle.plan_rule.proofs.YardLaws.{coded}
+use Rattle.plan_rule.proofs.PackLaws.{one_if-le}
 
 none_first : (a b c : Bool) → b ≡ false → one_if (a && (b && c)) ≡ 0
 none_first true true c e = absurd (true≢false e)
 none_first true false c e = refl
 none_first false b c e = refl
-
-none_last : (a b c : Bool) → c ≡ false → one_if (a && (b && c)) ≡ 0
-none_last true true c e = ap one_if e
-none_last true false c e = refl
-none_last false b c e = refl
 
 -- of the days below n at most so many lie from one day to another as there are days
 few_between : (open' : ℕ → Bool) (first last n : ℕ)
@@ -39,14 +33,14 @@ few_between : (open' : ℕ → Bool) (first last n : ℕ)
 few_between open' first last zero = (omega arith, omega arith)
 few_between open' first last (suc n) =
     let h = few_between open' first last n in
-    let one = one_at_most (open' n && (nat_le first n && nat_le n last)) in
+    let one = one_if-le (open' n && (nat_le first n && nat_le n last)) in
     elim (cases_lt n first) [
       | inl early ↦
           let none = none_first (open' n) (nat_le first n) (nat_le n last) (lt-leb first n early) in
           let a = h.0 in let b = h.1 in (omega arith, omega arith)
       | inr within ↦ elim (cases_lt last n) [
         | inl late ↦
-            let none = none_last (open' n) (nat_le first n) (nat_le n last) (lt-leb n last late) in
+            let none = and_last_false (open' n) (nat_le first n) (nat_le n last) (lt-leb n last late) in
             let a = h.0 in let b = h.1 in (omega arith, omega arith)
         | inr within' ↦ let a = h.0 in let b = h.1 in (omega arith, omega arith)
       ]
@@ -61,14 +55,11 @@ end_late days start duration end closed some is =
     let few = (few_between (λ d. not (has_day d closed)) start end days).1 in
     omega arith
 
-start_not_less : (p q : Placement) → ComesBefore p q → p.start ≤ q.start
-start_not_less p q order = elim order [ inl less ↦ omega arith | inr same ↦ let e = same.0 in omega arith ]
-
 -- a later code starts no sooner
 starts_ascend : (ps : List Placement) (i j : ℕ) (p q : Placement) → AreAscending ps → i ≤ j → slice_get ps i ≡ Some p → slice_get ps j ≡ Some q
     → p.start ≤ q.start
 starts_ascend ps i j p q up le e f = elim (cases_lt i j) [
-  | inl less ↦ start_not_less p q (up i j p q less e f)
+  | inl less ↦ first_start p q (up i j p q less e f)
   | inr here ↦
       let same : i ≡ j = omega arith in
       let one : p ≡ q = same_Some p q (sym e ∙ ap (slice_get ps) same ∙ f) in
@@ -86,7 +77,7 @@ onward_cost yard b code k start least is up value (exist, below) starts le (exis
     let two = coded yard b k exist below' in
     let begins : one.p.start ≡ start = starts one.p one.p_is in
     let order = starts_ascend (placements yard b) code k one.p two.p up le one.p_is two.p_is in
-    let some = (block_of yard b two.block is two.block_is).duration in
+    let some = (block_limits yard b two.block is two.block_is).duration in
     let late = end_late yard.days two.p.start two.block.duration two.p.end two.is.plate.closed (omega arith) two.is.end_is in
     let cost : (choices yard).cost b k ≡ cost_on two.block two.p.end =
     cost_is yard b k ∙ ap (λ o. cost_of o (slice_get (placements yard b) k)) two.block_is ∙ ap (cost_of (Some two.block)) two.p_is in

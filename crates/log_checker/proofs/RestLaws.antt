@@ -1,52 +1,12 @@
 -- The base of a side with one code of a block, from what the other blocks cost at least.
-use Rattle.std.proofs.Common.{◌≡◌, ◌≢◌, ℕ, ◌+◌, ◌<◌, ◌≤◌, List, length, Option, Some, None, IfSome, IfNone, refl, sym, ap, ◌∙◌, subst, inl, inr, arith, add-one}
+use Rattle.std.proofs.Common.{◌≡◌, ◌≢◌, ℕ, ◌+◌, ◌<◌, ◌≤◌, List, Some, None, refl, sym, ap, ◌∙◌, subst, inl, inr, arith, add-one}
 use Rattle.std.proofs.lemmas.Bool.{cases_lt}
-use Rattle.std.proofs.lemmas.Option.{none-some, same_Some}
-use Rattle.shape_exact.specs.Yards.{PlainYard}
-use Rattle.code_table.specs.Costs.{IsAtMostEachCost, IsCostOfSome}
-use Rattle.code_table.specs.Placements.{placements, own_cost}
+use Rattle.std.proofs.lemmas.Option.{same_Some}
 use Rattle.plan_rule.specs.declared.literal.Literal.{Literal}
 use Rattle.plan_rule.specs.Choices.{Choices, IsCode, blocks}
-use Rattle.plan_rule.specs.Boxes.{IsBox, IsLiteral, HasExact, exact_code, exact, with_literal}
+use Rattle.plan_rule.specs.Boxes.{exact, with_literal}
 use Rattle.plan_rule.specs.Bounds.{IsLeastOf, IsSumOfLeast, IsBase, MayTake}
-use Rattle.plan_rule.specs.Yards.{choices}
-use Rattle.plan_rule.proofs.BoundLaws.{exact-all}
-use Rattle.plan_rule.proofs.CountLaws.{block_exists, count-length, cost_is}
 use Rattle.log_checker.proofs.BesideLaws.{exact_other, exact_same}
-
--- the code of an exact block exists
-pub exact_exists : (c : Choices) (box : List Literal) (b code : ℕ) → IsBox c box → HasExact box b code → IsCode c b code
-exact_exists c box b code is f =
-    let l : IsLiteral c (exact b code) = exact-all (IsLiteral c) box b code is.each f in
-    let some = l.codes in (l.block, omega arith)
-
--- an exact block costs what its code costs
-pub least_exact : (yard : PlainYard) (box : List Literal) (b code cost : ℕ) → IsBox (choices yard) box → HasExact box b code → cost ≡ own_cost yard b code
-    → IsLeastOf (MayTake (choices yard) box b) ((choices yard).cost b) (Some cost)
-least_exact yard box b code cost is f e =
-    let exist = exact_exists (choices yard) box b code is f in
-    let same : (choices yard).cost b code ≡ cost = cost_is yard b code ∙ sym e in (
-      (code, (exist.1, λ d g. same_Some code d (sym f ∙ g)), same),
-      λ x may.
-          let only : x ≡ code = may.1 code f in
-          let cost_only : (choices yard).cost b x ≡ (choices yard).cost b code = ap (λ x. (choices yard).cost b x) only in
-          omega arith,
-    )
-
--- a block that is not exact costs the least of its codes
-pub least_free : (yard : PlainYard) (box : List Literal) (b : ℕ) (r : Option ℕ) → b < blocks (choices yard) → exact_code box b ≡ None
-    → IfNone r (length (placements yard b) ≡ 0) → IfSome r (IsAtMostEachCost yard b) → IfSome r (IsCostOfSome yard b)
-    → IsLeastOf (MayTake (choices yard) box b) ((choices yard).cost b) r
-least_free yard box b None exist free none least some =
-    λ x may. let n = count-length yard b (block_exists yard b exist) in let l = may.0 in absurd (omega arith)
-least_free yard box b (Some cost) exist free none least (code, below, is) =
-    let n = count-length yard b (block_exists yard b exist) in (
-      (code, (omega arith, λ d g. absurd (none-some d (sym free ∙ g))), cost_is yard b code ∙ is),
-      λ x may.
-          let le : cost ≤ own_cost yard b x = least x (let l = may.0 in omega arith) in
-          let same = cost_is yard b x in
-          omega arith,
-    )
 
 -- what another block may take is the same beside each code
 may_beside : (c : Choices) (side : List Literal) (b code a x : ℕ) → a ≢ b → MayTake c side a x → MayTake c (with_literal side (exact b code)) a x

@@ -1,40 +1,18 @@
 -- With which codes of a block a box covers a side.
-use Rattle.std.proofs.Common.{◌≡◌, ◌≢◌, ℕ, zero, suc, ◌+◌, ◌<◌, ◌≤◌, List, [], ◌∷◌, length, get_or, Bool, true, false, cond, Option, Some, None, ◌⊎◌, refl, sym, ap, ◌∙◌, subst, inl, inr, arith}
+use Rattle.std.proofs.Common.{◌≡◌, ◌≢◌, ℕ, ◌+◌, ◌<◌, ◌≤◌, List, ◌∷◌, length, get_or, Bool, true, false, Option, Some, None, ◌⊎◌, refl, sym, ap, ◌∙◌, subst, inl, inr, arith}
 use Rattle.std.specs.Prelude.{◌↔◌, nat_lt, ◌==◌, ◌&&◌, if◌then◌else◌}
 use Rattle.std.specs.List.{All, Contains, filter}
-use Rattle.std.proofs.lemmas.Bool.{cases_eq, cases_order, lt-ltb, eqb-true, and_parts, false≢true}
+use Rattle.std.proofs.lemmas.Bool.{cases_eq, cases_order, lt-ltb, eqb-true, and_parts}
 use Rattle.std.proofs.lemmas.Option.{slice_get-get_or}
 use Rattle.std.proofs.lemmas.List.Elements.{All-append, All-cons, All-filter, All-contains, Contains-get_or, Contains-append_left, Contains-append_right}
+use Rattle.common_lists.proofs.ListLaws.{contains_filter, contains_there}
 use Rattle.plan_rule.specs.declared.literal.Literal.{Literal}
 use Rattle.plan_rule.specs.Choices.{Choices, count, IsCode}
 use Rattle.plan_rule.specs.Boxes.{IsAscending, IsWhole, LeavesFree, Covers, exact, with_literal}
 use Rattle.plan_rule.proofs.BehindLaws.{one_literal}
+use Rattle.plan_rule.proofs.WithLaws.{with_self}
 use Rattle.log_checker.specs.declared.span.Span.{Span}
 use Rattle.log_checker.specs.Spans.{IsWithin, IsSpanOf, HoldsOne, HoldOthers, HaveCode}
-
-contains_there : {X : Type 0} (y : X) (xs : List X) (x : X) → Contains xs x → Contains (y ∷ xs) x
-contains_there y xs x (k, within, is) = (suc k, omega arith, is)
-
-contains_kept : {X : Type 0} (t : Bool) (y : X) (xs : List X) (x : X) → Contains xs x → Contains (cond t (y ∷ xs) xs) x
-contains_kept true y xs x h = contains_there y xs x h
-contains_kept false y xs x h = h
-
-contains_first : {X : Type 0} (t : Bool) (xs : List X) (x : X) → t ≡ true → Contains (cond t (x ∷ xs) xs) x
-contains_first true xs x e = (0, omega arith, refl)
-contains_first false xs x e = absurd (false≢true e)
-
--- what passes a test is kept by its filter
-contains-filter : {X : Type 0} (test : X → Bool) (xs : List X) (x : X) → test x ≡ true → Contains xs x → Contains (filter test xs) x
-contains-filter test [] x e (k, within, is) = absurd (omega arith)
-contains-filter test (y ∷ xs) x e (zero, within, is) =
-    subst (λ z. Contains (cond (test z) (z ∷ filter test xs) (filter test xs)) x) (sym is) (contains_first (test x) (filter test xs) x e)
-contains-filter test (y ∷ xs) x e (suc k, within, is) =
-    contains_kept (test y) y (filter test xs) x (contains-filter test xs x e (k, omega arith, is))
-
--- a box with a literal more has the literal, and no other besides
-pub with_has : (box : List Literal) (l : Literal) → Contains (with_literal box l) l
-with_has box l =
-    Contains-append_right (filter (λ m. nat_lt m.block l.block) box) (l ∷ filter (λ m. nat_lt l.block m.block) box) l (0, omega arith, refl)
 
 all_with : (box : List Literal) (l : Literal) → All (λ m. (l ≡ m) ⊎ Contains box m) (with_literal box l)
 all_with box l =
@@ -56,9 +34,9 @@ with_keeps box l m free h =
     elim (cases_order m.block l.block) [
       | inl e ↦ absurd (other e)
       | inr o ↦ elim o [
-        | inl less ↦ Contains-append_left front (l ∷ back) m (contains-filter (λ m. nat_lt m.block l.block) box m (lt-ltb m.block l.block less) h)
+        | inl less ↦ Contains-append_left front (l ∷ back) m (contains_filter (λ m. nat_lt m.block l.block) box m (lt-ltb m.block l.block less) h)
         | inr more ↦ Contains-append_right front (l ∷ back) m
-            (contains_there l back m (contains-filter (λ m. nat_lt l.block m.block) box m (lt-ltb l.block m.block more) h))
+            (contains_there l back m (contains_filter (λ m. nat_lt l.block m.block) box m (lt-ltb l.block m.block more) h))
       ]
     ]
 
@@ -67,7 +45,7 @@ pub all_of_with : (P : Literal → Type 0) (box : List Literal) (l : Literal) �
     → All P (with_literal box l) ↔ (P l × All P box)
 all_of_with P box l free = (
   λ h. (
-    All-contains P (with_literal box l) l h (with_has box l),
+    All-contains P (with_literal box l) l h (with_self box l),
     λ k d within. All-contains P (with_literal box l) (get_or box k d) h (with_keeps box l (get_or box k d) free (Contains-get_or box k d within)),
   ),
   λ h k d within. elim (with_cases box l (get_or (with_literal box l) k d) (Contains-get_or (with_literal box l) k d within)) [
@@ -114,7 +92,7 @@ held_any c side b code a free (inr some) =
 held_code : (c : Choices) (side : List Literal) (b code : ℕ) (a : Literal) → a.block ≡ b → (a.lo ≤ code) × (code < a.hi)
     → HoldsOne c (with_literal side (exact b code)) a
 held_code c side b code a here (low, high) =
-    let (j, within, is) = with_has side (exact b code) in
+    let (j, within, is) = with_self side (exact b code) in
     inr (j, exact b code, within, is, (sym here, low, omega arith))
 
 -- a literal beside a side with a code more

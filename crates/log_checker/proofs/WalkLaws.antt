@@ -4,6 +4,7 @@ use Rattle.std.specs.Prelude.{slice_get, max, ◌↔◌}
 use Rattle.std.specs.List.Sorted.{IsNonDecreasingBy}
 use Rattle.std.proofs.lemmas.Bool.{cases_lt, cases_order}
 use Rattle.std.proofs.lemmas.List.{get_or_default}
+use Rattle.common_lists.proofs.ListLaws.{element_at}
 use Rattle.shape_exact.specs.Yards.{PlainYard}
 use Rattle.shape_exact.specs.declared.block.Block.{Block}
 use Rattle.code_table.specs.declared.placement.Placement.{Placement}
@@ -12,7 +13,6 @@ use Rattle.code_table.specs.Placements.{placements, cost_at, cost_of, cost_on, o
 use Rattle.code_table.specs.Stretches.{IsStretch, nth_place}
 use Rattle.plan_rule.specs.Choices.{blocks}
 use Rattle.plan_rule.specs.Yards.{choices}
-use Rattle.plan_rule.proofs.ClashLaws.{element}
 use Rattle.plan_rule.proofs.CountLaws.{cost_is}
 use Rattle.log_checker.specs.declared.cut.Cut.{Cut}
 use Rattle.log_checker.specs.declared.exact.Exact.{Exact}
@@ -59,7 +59,7 @@ in_none spans n code d up within begins passed (k, s, inside, is, (low, high)) =
 pub cost_of_place : (yard : PlainYard) (b code cost : ℕ) (p : Placement) → b < length yard.blocks → slice_get (placements yard b) code ≡ Some p
     → ((block : Block) → slice_get yard.blocks b ≡ Some block → cost ≡ cost_at block p) → cost ≡ (choices yard).cost b code
 cost_of_place yard b code cost p exists at is =
-    let (block, here) = element yard.blocks b exists in
+    let (block, here) = element_at yard.blocks b exists in
     let own : own_cost yard b code ≡ cost_at block p =
     ap (λ o. cost_of o (slice_get (placements yard b) code)) here ∙ ap (cost_of (Some block)) at in
     is block here ∙ sym own ∙ sym (cost_is yard b code)

@@ -38,7 +38,7 @@ ascend_none = λ i j l m less e f. absurd (none-some l e)
 ascend_tail : (l : Literal) (xs : List Literal) → IsAscending (l ∷ xs) → IsAscending xs
 ascend_tail l xs up = λ i j a b less e f. up (suc i) (suc j) a b (omega arith) e f
 
-contains_get : (xs : List Literal) (k : ℕ) (x : Literal) → k < length xs → get_or xs k x ≡ x → slice_get xs k ≡ Some x
+pub contains_get : (xs : List Literal) (k : ℕ) (x : Literal) → k < length xs → get_or xs k x ≡ x → slice_get xs k ≡ Some x
 contains_get [] k x l e = absurd (omega arith)
 contains_get (y ∷ xs) zero x l e = ap (λ y. Some y) e
 contains_get (y ∷ xs) (suc k) x l e = contains_get xs k x (omega arith) e

@@ -4,25 +4,24 @@ use Rattle.std.specs.Prelude.{slice_get, ◌&&◌, if◌then◌else◌}
 use Rattle.std.proofs.lemmas.Bool.{cases_lt, eq-eqb}
 use Rattle.std.proofs.lemmas.List.Elements.{All-nil, All-cons}
 use Rattle.std.proofs.lemmas.Option.{none-some}
+use Rattle.common_lists.proofs.ListLaws.{get_within}
 use Rattle.plan_rule.specs.Boxes.{IsBox, IsLiteral, with_literal, exact}
 use Rattle.plan_rule.specs.Choices.{Choices, blocks, count}
 use Rattle.plan_rule.specs.Fronts.{HasCodes}
 use Rattle.plan_rule.specs.Plans.{IsAnswer}
 use Rattle.plan_rule.specs.declared.literal.Literal.{Literal}
 use Rattle.plan_rule.proofs.PathLaws.{path-below}
+use Rattle.plan_rule.proofs.EmptyLaws.{empty_box}
 use Rattle.refutation_log.specs.declared.record.Record.{Record}
 use Rattle.refutation_log.specs.declared.record.Record.TheVariants.{Branch}
 use Rattle.refutation_log.specs.Logs.{AreSteps}
 use Rattle.refutation_log.specs.Steps.{result_of, IsStep, IsAccepted}
-use Rattle.refutation_log.proofs.AppendedLaws.{within, get_after, pushed_steps}
+use Rattle.refutation_log.proofs.AppendedLaws.{get_after, pushed_steps}
 use Rattle.log_merge.specs.Closing.{AllExist, CoversRoot}
 use Rattle.log_merge.specs.Merging.{RefutesJob, IsMerged}
 use Rattle.log_merge.specs.declared.merging.Leaf.{Leaf}
 use Rattle.log_merge.specs.Tiles.{root}
 use Rattle.log_merge.proofs.Covering.{covers_held}
-
-pub empty_box : (c : Choices) → IsBox c []
-empty_box c = record { ascending = λ i j l m less e d. absurd (none-some l e); each = All-nil (IsLiteral c) }
 
 -- the box of one code of block 0
 one_box : (c : Choices) (code : ℕ) → 0 < blocks c → code < count c 0 → IsBox c (with_literal [] (exact 0 code))
@@ -50,7 +49,7 @@ closing_is_step c t log k some_block h = record {
   block = some_block;
   free = All-nil (λ l. l.block ≡ 0 → ⊥);
   range = elim (cases_lt 0 (count c 0)) [ inl some ↦ inl (some, omega arith) | inr none ↦ inr (refl, (omega arith), (omega arith)) ];
-  earlier_only = All-cons (λ k. k < length log) k [] (within log k h.root h.at) (All-nil (λ k. k < length log));
+  earlier_only = All-cons (λ k. k < length log) k [] (get_within log k h.root h.at) (All-nil (λ k. k < length log));
   covered = λ code l m. inr (inr (inr (k, h.root, (0, omega arith, refl), h.at, h.covers code m)));
 }
 

@@ -1,34 +1,32 @@
 -- Leaves that are put in order.
 use Rattle.std.proofs.Common.{◌≡◌, ℕ, ◌+◌, ◌^◌, ◌<◌, List, [], ◌∷◌, ◌++◌, length, map, get_or, Option, Some, refl, sym, ap, ◌∙◌, subst, inr, arith, length-append}
 use Rattle.std.specs.Prelude.{IsPermutation, slice_get}
-use Rattle.std.specs.List.{All, sum_by}
+use Rattle.std.specs.List.{sum_by}
 use Rattle.std.specs.List.Sorted.{IsNonDecreasingBy}
-use Rattle.std.proofs.lemmas.List.Elements.{All-nil, All-contains, All-contains_itself}
-use Rattle.std.proofs.lemmas.List.Sorted.{Contains-permutation, IsPermutation-sym, sum_by-IsPermutation}
+use Rattle.std.proofs.lemmas.List.Elements.{All-nil}
+use Rattle.std.proofs.lemmas.List.Sorted.{sum_by-IsPermutation}
+use Rattle.common_lists.proofs.ListLaws.{all_permuted, map_length}
 use Rattle.plan_rule.specs.declared.job.Job.{Job}
 use Rattle.plan_rule.specs.declared.literal.Literal.{Literal}
 use Rattle.plan_rule.specs.Choices.{Choices, blocks, count}
 use Rattle.plan_rule.specs.Fronts.{HasCodes}
 use Rattle.plan_rule.specs.Jobs.{IsJob}
 use Rattle.plan_rule.specs.Plans.{IsAnswer}
+use Rattle.plan_rule.proofs.EmptyLaws.{empty_box}
 use Rattle.refutation_log.specs.declared.record.Record.{Record}
 use Rattle.refutation_log.specs.declared.record.Record.TheVariants.{Branch}
 use Rattle.refutation_log.specs.Logs.{AreSteps}
 use Rattle.refutation_log.specs.Steps.{IsStep, IsAccepted}
 use Rattle.std.proofs.lemmas.List.{get_or-map}
 use Rattle.std.proofs.lemmas.List.Sums.{sum_by-cons}
-use Rattle.refutation_log.proofs.AppendedLaws.{get_after, map_length, pushed_steps}
+use Rattle.refutation_log.proofs.AppendedLaws.{get_after, pushed_steps}
 use Rattle.log_merge.specs.declared.merging.Leaf.{Leaf}
 use Rattle.log_merge.specs.Leaves.{AreLeavesOf, job_of}
 use Rattle.log_merge.specs.Merging.{IsMergeable, IsRootOrHalf, RefutesJob}
 use Rattle.log_merge.specs.Tiles.{has, root, times}
 use Rattle.log_merge.proofs.Chains.{sorted_chain}
 use Rattle.refutation_log.proofs.EmptyLaws.{branch_empty}
-use Rattle.log_merge.proofs.ClosingLaws.{empty_box, last_refutes}
-
-All-moved : {X : Type 0} (P : X → Type 0) (xs ys : List X) → IsPermutation xs ys → All P xs → All P ys
-All-moved P xs ys moved h k d l =
-    All-contains P xs (get_or ys k d) h (Contains-permutation ys xs (get_or ys k d) (IsPermutation-sym xs ys moved) (All-contains_itself ys k d l))
+use Rattle.log_merge.proofs.ClosingLaws.{last_refutes}
 
 map_rises : (leaves : List Leaf) → IsNonDecreasingBy (λ (l : Leaf). l.job.front) leaves → IsNonDecreasingBy (λ (j : Job). j.front) (map job_of leaves)
 map_rises leaves up = λ i j d l m.
@@ -57,8 +55,8 @@ ordered_mergeable c log leaves ordered some_codes h moved up = record {
   job_is = record { length = omega arith; bits = omega arith; low = refl };
   chain = sorted_chain 0 (2 ^ 32) (map job_of ordered) (map_rises ordered up) (omega arith) (λ x. times_moved x leaves ordered moved ∙ h.once x);
   deep = λ d. omega arith;
-  jobs = All-moved (λ (l : Leaf). IsJob l.job × IsRootOrHalf c l.job) leaves ordered moved h.jobs;
-  shown = All-moved (λ (l : Leaf). RefutesJob c log l.record l.job) leaves ordered moved (h.shown some_codes);
+  jobs = all_permuted (λ (l : Leaf). IsJob l.job × IsRootOrHalf c l.job) leaves ordered moved h.jobs;
+  shown = all_permuted (λ (l : Leaf). RefutesJob c log l.record l.job) leaves ordered moved (h.shown some_codes);
 }
 
 empty_step : (c : Choices) (t : Option (List ℕ)) (log : List Record) (b : ℕ) → b < blocks c → count c b ≡ 0 → IsStep c t log (Branch b 0 0 [] [])

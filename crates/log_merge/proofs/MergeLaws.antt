@@ -5,6 +5,7 @@ use Rattle.std.proofs.lemmas.Bool.{cases_lt}
 use Rattle.std.proofs.lemmas.Nat.{pow_pos, pow-add, mul-le}
 use Rattle.std.proofs.Math.Nat.{pow-suc, mul_assoc}
 use Rattle.std.proofs.lemmas.List.Elements.{All-get_or, All-weaker}
+use Rattle.common_lists.proofs.ListLaws.{get_before, get_within}
 use Rattle.plan_rule.specs.declared.job.Job.{Job}
 use Rattle.plan_rule.specs.declared.literal.Literal.{Literal}
 use Rattle.plan_rule.specs.Choices.{Choices}
@@ -21,7 +22,7 @@ use Rattle.std.proofs.lemmas.Option.{none-some, same_Some}
 use Rattle.log_merge.specs.Closing.{ExistsIn}
 use Rattle.log_merge.specs.Merging.{RefutesBox, RefutesJob, IsBoxOf, IsRecordOf, HasTwo, IsRootOrHalf, literal, IsMergeable, IsMerged}
 use Rattle.log_merge.specs.declared.merging.Leaf.{Leaf}
-use Rattle.refutation_log.proofs.AppendedLaws.{pushed_steps, get_after, get_before, within}
+use Rattle.refutation_log.proofs.AppendedLaws.{pushed_steps, get_after}
 use Rattle.log_merge.proofs.Halved.{halved_is_step}
 use Rattle.log_merge.proofs.Covering.{covers_held}
 
@@ -169,7 +170,7 @@ put_together c job low high leaves at n1 n2 r1 r2 k log log1 log2 log3 d rec som
     (shows_box c log2 r1 (lower job) (with_literal side (literal b lo mid)) some_codes box_low first)
     (shows_box c log2 r2 (upper job) (with_literal side (literal b mid hi)) some_codes box_high second)
     (All-weaker (λ k. (k ≡ r1) ⊎ (k ≡ r2)) (λ k. k < length log2)
-    (λ k one. elim one [ inl x ↦ (let a = within log2 r1 first.0 first.1 in omega arith) | inr x ↦ (let a = within log2 r2 second.0 second.1 in omega arith) ]) cites cites_only)
+    (λ k one. elim one [ inl x ↦ (let a = get_within log2 r1 first.0 first.1 in omega arith) | inr x ↦ (let a = get_within log2 r2 second.0 second.1 in omega arith) ]) cites cites_only)
     has1 has2) in
     record {
       shown = (
@@ -194,7 +195,7 @@ pub small_numbers : (c : Choices) (low high : Job) (leaves : List Leaf) (r1 n1 r
     → length log2 < 10 ^ 18 → (r1 < 10 ^ 18) × (r2 < 10 ^ 18)
 small_numbers c low high leaves r1 n1 r2 n2 log log1 log2 done1 done2 few =
     let (more, g) = done2.grown in
-    let a = within log1 r1 done1.shown.0 done1.shown.1 in
-    let b = within log2 r2 done2.shown.0 done2.shown.1 in
+    let a = get_within log1 r1 done1.shown.0 done1.shown.1 in
+    let b = get_within log2 r2 done2.shown.0 done2.shown.1 in
     let l : length log2 ≡ length log1 + length more = ap length g ∙ length-append log1 more in
     (omega arith, omega arith)

@@ -7,6 +7,7 @@ use Rattle.std.proofs.lemmas.List.{take_more, get_or_append_left, length-take}
 use Rattle.std.proofs.lemmas.List.Elements.{All-append, All-contains, All-contains_itself, All-get_or, All-nil, All-cons, All-push, All-weaker, Contains-append_left, Contains-get_or, Contains-push, Contains-push_cases}
 use Rattle.std.proofs.lemmas.List.Sorted.{Contains-permutation, IsPermutation-sym}
 use Rattle.std.proofs.lemmas.Option.{none-some, same_Some, slice_get-get_or}
+use Rattle.common_lists.proofs.ListLaws.{get_before, get_last, all_permuted, get_or-default, taken_get}
 use Rattle.plan_rule.specs.Boxes.{Covers, exact, with_literal}
 use Rattle.plan_rule.specs.Choices.{Choices}
 use Rattle.plan_rule.specs.Yards.{choices}
@@ -15,16 +16,8 @@ use Rattle.refutation_log.specs.declared.record.Record.{Record}
 use Rattle.refutation_log.specs.declared.record.Record.TheVariants.{Branch, Fit, Energy}
 use Rattle.refutation_log.specs.Logs.{CiteEarlier, cites_of}
 use Rattle.refutation_log.specs.Steps.{IsCited, IsCovered, IsStep, result_of}
-use Rattle.refutation_log.proofs.AppendedLaws.{get_before}
 use Rattle.branch_kernel.specs.Clean.{Leads}
-use Rattle.branch_kernel.proofs.GrowthLaws.{slice_get-last}
-use Rattle.branch_kernel.proofs.OrderLaws.{All-permuted}
 use Rattle.log_parts.specs.Picked.{AreCopied, AreFoundIn, IsAdded, IsClosedUnder, IsDerivation, IsOneAdded, IsRenumbered, Rises}
-
-pub default : {X : Type 0} (xs : List X) (i : ℕ) (d e : X) → i < length xs → get_or xs i d ≡ get_or xs i e
-default [] i d e l = absurd (omega arith)
-default (x ∷ xs) zero d e l = refl
-default (x ∷ xs) (suc i) d e l = default xs i d e (omega arith)
 
 pub added_none : (xs : List ℕ) → IsAdded [] xs xs
 added_none xs = record { grown = ([], sym (append-nil xs), All-nil (Contains [])); has = All-nil (Contains xs) }
@@ -104,7 +97,7 @@ closing_more log last picked next i e earlier h l at added =
 pub closing_ends : (log : List Record) (last : ℕ) (picked : List ℕ) (i : ℕ) → i ≡ length picked → IsClosing log last picked i → IsClosedUnder log last picked
 closing_ends log last picked i e h = record {
   has = h.has;
-  closed = λ k r (j, l, is) at. h.done j r (omega arith) (subst (λ k. slice_get log k ≡ Some r) (sym (default picked j 0 k l ∙ is)) at);
+  closed = λ k r (j, l, is) at. h.done j r (omega arith) (subst (λ k. slice_get log k ≡ Some r) (sym (get_or-default picked j 0 k l ∙ is)) at);
   led = h.led;
 }
 
@@ -114,7 +107,7 @@ closed_permuted log last xs ys moved h = record {
   has = Contains-permutation xs ys last moved h.has;
   closed = λ k r c at. All-weaker (Contains xs) (Contains ys) (λ k c. Contains-permutation xs ys k moved c) (cites_of r)
       (h.closed k r (Contains-permutation ys xs k (IsPermutation-sym xs ys moved) c) at);
-  led = All-permuted (λ k. (k ≤ last) × ((n : ℕ) × Leads log n last k)) xs ys moved h.led;
+  led = all_permuted (λ k. (k ≤ last) × ((n : ℕ) × Leads log n last k)) xs ys moved h.led;
 }
 
 pub found_none : (picked places : List ℕ) → places ≡ [] → AreFoundIn picked [] places
@@ -154,7 +147,7 @@ copied_one log part next picked i e h at (r, is, copy) = record {
           e,
           r,
           subst (λ k. slice_get log (slice_index picked k) ≡ Some e) same at,
-          subst (λ k. slice_get next k ≡ Some r) long (subst (λ l. slice_get l (length part) ≡ Some r) (sym is) (slice_get-last part r)),
+          subst (λ k. slice_get next k ≡ Some r) long (subst (λ l. slice_get l (length part) ≡ Some r) (sym is) (get_last part r)),
           subst (λ k. IsRenumbered picked k e r) long copy,
         ))
   ];
@@ -164,12 +157,6 @@ renumbered_result : (c : Choices) (picked : List ℕ) (n : ℕ) (e r : Record) �
 renumbered_result c picked n (Branch b lo hi side cites) r (list, is, low, found) = ap (result_of c) is
 renumbered_result c picked n (Fit side) r is = ap (result_of c) is
 renumbered_result c picked n (Energy from to side) r is = ap (result_of c) is
-
-get_taken : {X : Type 0} (xs : List X) (n i : ℕ) (x : X) → i < n → slice_get xs i ≡ Some x → slice_get (take n xs) i ≡ Some x
-get_taken [] n i x l e = absurd (none-some x e)
-get_taken (y ∷ xs) zero i x l e = absurd (omega arith)
-get_taken (y ∷ xs) (suc n) zero x l e = e
-get_taken (y ∷ xs) (suc n) (suc i) x l e = get_taken xs n i x (omega arith) e
 
 get_untaken : {X : Type 0} (xs : List X) (n i : ℕ) (x : X) → slice_get (take n xs) i ≡ Some x → slice_get xs i ≡ Some x
 get_untaken [] zero i x e = e
@@ -199,7 +186,7 @@ step_copied c t log part picked own j (Branch b lo hi side cites) r h l (list, i
           m,
           r',
           in_list,
-          get_taken part j m r' below here,
+          taken_get part j m r' below here,
           subst (λ box. Covers c box (with_literal side (exact b code))) (sym (renumbered_result c picked m e' r' renumbered ∙ ap (result_of c) rec_is)) covers,
         )
 
@@ -229,14 +216,14 @@ derived log part last picked rises closed h = record {
       let long : i + 1 ≡ length picked = e ∙ h.size in
       let low = (All-get_or (λ k. (k ≤ last) × ((n : ℕ) × Leads log n last k)) picked i 0 (omega arith) closed.led).0 in
       let high = rises j i (omega arith) (omega arith) in
-      let is_j : get_or picked j 0 ≡ last = default picked j 0 last l ∙ at_j in
+      let is_j : get_or picked j 0 ≡ last = get_or-default picked j 0 last l ∙ at_j in
       let is_last : get_or picked i 0 ≡ last = omega arith in
       (s, subst (λ k. slice_get log k ≡ Some s) is_last at, λ yard. ap (result_of (choices yard)) (sym r_is) ∙ renumbered_result (choices yard) picked i s r' renumbered);
 }
 
 pub not_missing : (picked : List ℕ) (x i : ℕ) → Contains picked x → ((k : ℕ) → k < i → get_or picked k 0 < x) → ((k : ℕ) → i ≤ k → k < length picked → x < get_or picked k 0) → ⊥
 not_missing picked x i (j, l, e) low high =
-    let is : get_or picked j 0 ≡ x = default picked j 0 x l ∙ e in
+    let is : get_or picked j 0 ≡ x = get_or-default picked j 0 x l ∙ e in
     elim (cases_lt j i) [ inl below ↦ (let a = low j below in omega arith) | inr above ↦ (let a = high j above l in omega arith) ]
 
 -- the places of what is cited are places before the copy's

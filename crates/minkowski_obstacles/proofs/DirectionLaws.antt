@@ -9,6 +9,8 @@ use Rattle.std.proofs.lemmas.Bool.Decides.{Decides-int_eq}
 use borrow.Author.Tests.{ltb-true, ltb-false, eqb-true, eq-eqb}
 use lib.IntN.{ℤ, pos, ◌+ℤ◌, ◌-ℤ◌, ◌*ℤ◌, neg_ℤ}
 use lib.Signed.{◌<ℤ◌, ◌≤ℤ◌, lt_z}
+use Rattle.common_lists.proofs.ListLaws.{both_true}
+use Rattle.common_lists.proofs.NumberLaws.{square_weak}
 use Rattle.shape_exact.specs.declared.point.Point.{Point}
 use Rattle.shape_exact.proofs.RingLaws.{ring, linear, zero-mul, positive_mul, not_negative_mul, positive_cancel}
 use Rattle.shape_exact.proofs.LineLaws.{Sign, sign, above, none, below}
@@ -19,10 +21,6 @@ use Rattle.minkowski_obstacles.specs.Merged.{is_upper, is_lower, half_turns, lef
 or_cases : (a b : Bool) → (a || b) ≡ true → (a ≡ true) ⊎ (b ≡ true)
 or_cases true b e = inl refl
 or_cases false b e = inr e
-
-and_both : (a b : Bool) → (a && b) ≡ true → (a ≡ true) × (b ≡ true)
-and_both true b e = (refl, e)
-and_both false b e = absurd (false≢true e)
 
 or_none : (a b : Bool) → (a || b) ≡ false → (a ≡ false) × (b ≡ false)
 or_none true b e = absurd (false≢true (sym e))
@@ -47,7 +45,7 @@ upper_out x y e = by (or_cases (lt_z (pos 0) y) (int_eq y (pos 0) && lt_z (pos 0
     by : (lt_z (pos 0) y ≡ true) ⊎ ((int_eq y (pos 0) && lt_z (pos 0) x) ≡ true) → Upper x y
     by (inl u) = (omega (arith, linear), λ z. omega (arith, linear))
     by (inr v) =
-        let w = and_both (int_eq y (pos 0)) (lt_z (pos 0) x) v in
+        let w = both_true (int_eq y (pos 0)) (lt_z (pos 0) x) v in
         let r : pos 0 <ℤ x = (let a = w.1 in omega (arith, linear)) in
         let z : y ≡ pos 0 = (Decides-int_eq y (pos 0)).0 w.0 in
         (omega (arith, linear), λ z. r)
@@ -68,7 +66,7 @@ lower_out x y e = by (or_cases (lt_z y (pos 0)) (int_eq y (pos 0) && lt_z x (pos
     by : (lt_z y (pos 0) ≡ true) ⊎ ((int_eq y (pos 0) && lt_z x (pos 0)) ≡ true) → Lower x y
     by (inl u) = (omega (arith, linear), λ z. omega (arith, linear))
     by (inr v) =
-        let w = and_both (int_eq y (pos 0)) (lt_z x (pos 0)) v in
+        let w = both_true (int_eq y (pos 0)) (lt_z x (pos 0)) v in
         let r : x <ℤ pos 0 = (let a = w.1 in omega (arith, linear)) in
         let z : y ≡ pos 0 = (Decides-int_eq y (pos 0)).0 w.0 in
         (omega (arith, linear), λ z. r)
@@ -188,14 +186,6 @@ lower_chain ux uy vx vy wx wy u v w a b =
 dot_at : (ux uy vx vy : ℤ) → uy *ℤ (ux *ℤ vx +ℤ uy *ℤ vy) ≡ (ux *ℤ ux +ℤ uy *ℤ uy) *ℤ vy -ℤ ux *ℤ (ux *ℤ vy -ℤ uy *ℤ vx)
 dot_at ux uy vx vy = simp ring (omega (arith, linear))
 
-square : (a : ℤ) → pos 0 ≤ℤ (a *ℤ a)
-square a = by (sign a)
-  where
-    by : Sign a → pos 0 ≤ℤ (a *ℤ a)
-    by (above h) = let m = positive_mul a a h h in omega (arith, linear)
-    by (none z) = subst (λ (k : ℤ). pos 0 ≤ℤ (k *ℤ k)) (sym z) (omega arith)
-    by (below h) = let m = positive_mul (neg_ℤ a) (neg_ℤ a) (omega (arith, linear)) (omega (arith, linear)) in let e : neg_ℤ a *ℤ neg_ℤ a ≡ a *ℤ a = simp ring in omega (arith, linear)
-
 upper_dot : (ux uy vx vy : ℤ) → Upper ux uy → Upper vx vy → ux *ℤ vy -ℤ uy *ℤ vx ≡ pos 0 → pos 0 <ℤ (ux *ℤ vx +ℤ uy *ℤ vy)
 upper_dot ux uy vx vy u v e = by (sign uy) (sign vy)
   where
@@ -204,7 +194,7 @@ upper_dot ux uy vx vy u v e = by (sign uy) (sign vy)
 
     by : Sign uy → Sign vy → pos 0 <ℤ (ux *ℤ vx +ℤ uy *ℤ vy)
     by (above h) (above k) =
-        let s = square ux in
+        let s = square_weak ux in
         let t = positive_mul uy uy h h in
         let n = positive_mul (ux *ℤ ux +ℤ uy *ℤ uy) vy (omega (arith, linear)) k in
         let f = clear ((ux *ℤ ux +ℤ uy *ℤ uy) *ℤ vy) ux (ux *ℤ vy -ℤ uy *ℤ vx) (uy *ℤ (ux *ℤ vx +ℤ uy *ℤ vy)) (dot_at ux uy vx vy) e in
@@ -250,7 +240,7 @@ before_out h k t e = by (or_cases (ltb h k) (eqb h k && lt_z (pos 0) t) e)
   where
     by : (ltb h k ≡ true) ⊎ ((eqb h k && lt_z (pos 0) t) ≡ true) → (h < k) ⊎ ((h ≡ k) × (pos 0 <ℤ t))
     by (inl f) = inl (ltb-true h k f)
-    by (inr g) = let w = and_both (eqb h k) (lt_z (pos 0) t) g in inr (eqb-true h k w.0, let a = w.1 in omega (arith, linear))
+    by (inr g) = let w = both_true (eqb h k) (lt_z (pos 0) t) g in inr (eqb-true h k w.0, let a = w.1 in omega (arith, linear))
 
 not_before_in : (h k : ℕ) (t : ℤ) → k ≤ h → (h ≡ k → t ≤ℤ pos 0) → (ltb h k || (eqb h k && lt_z (pos 0) t)) ≡ false
 not_before_in h k t l f = by (ltb h k || (eqb h k && lt_z (pos 0) t)) refl

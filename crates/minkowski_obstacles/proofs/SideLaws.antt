@@ -14,6 +14,7 @@ use Rattle.shape_exact.proofs.SumLaws.{pick, every_map}
 use Rattle.shape_exact.proofs.MoveLaws.{some_map}
 use Rattle.shape_exact.proofs.ZipLaws.{zip_some, zip_back}
 use Rattle.shape_exact.proofs.BridgeLaws.{every_from_All, some_from_Any, side-cross, thick_from}
+use Rattle.shape_exact.proofs.MeetLaws.{every_append}
 use Rattle.minkowski_obstacles.specs.declared.edge.Edge.{Edge}
 use Rattle.minkowski_obstacles.specs.declared.side.Side.{Side}
 use Rattle.minkowski_obstacles.specs.Sums.{line, wall, fixed_side, moving_side}
@@ -54,10 +55,6 @@ some_left P (x ∷ xs) ys (inr h) = inr (some_left P xs ys h)
 pub some_right : {A : Type 0} (P : A → Type 0) (xs ys : List A) → Some_of P ys → Some_of P (xs ++ ys)
 some_right P [] ys h = h
 some_right P (x ∷ xs) ys h = inr (some_right P xs ys h)
-
-pub every_append : {A : Type 0} (P : A → Type 0) (xs ys : List A) → Every P xs → Every P ys → Every P (xs ++ ys)
-every_append P [] ys h k = k
-every_append P (x ∷ xs) ys h k = (h.0, every_append P xs ys h.1 k)
 
 -- the sides of both together are those of the sum
 pub sum_from : (fs ms : List Point) (ss ts : List Side) → AllZip (λ e s. Of_fixed ms e (wall s)) (rim fs) ss → AllZip (λ f s. Of_moving fs f (wall s)) (rim ms) ts → Is_sum fs ms (map wall (ss ++ ts))

@@ -4,6 +4,7 @@ use Rattle.std.specs.List.{All}
 use Rattle.std.proofs.lemmas.Bool.{cases_lt}
 use Rattle.std.proofs.lemmas.List.{map-append, length_push}
 use Rattle.std.proofs.lemmas.List.Elements.{All-cons, All-head, All-tail, All-nil, All-append, All-weaker}
+use Rattle.watch_chains.proofs.SoundLaws.{lacks_if}
 use Rattle.nogood_store.specs.declared.nogood.Nogood.{Nogood}
 use Rattle.nogood_store.specs.declared.step.Step.{Step}
 use Rattle.nogood_store.specs.Waits.{box_of, waits, Rising}
@@ -22,10 +23,6 @@ lacks_push y e (x ∷ xs) other lacks = (lacks.0, lacks_push y e xs other lacks.
 distinct_push : (xs : List ℕ) (e : ℕ) → AreDistinct xs → Lacks e xs → AreDistinct (xs ++ e ∷ [])
 distinct_push [] e distinct lacks = (tt, tt)
 distinct_push (x ∷ xs) e distinct lacks = (lacks_push x e xs (λ same. lacks.0 (sym same)) distinct.0, distinct_push xs e distinct.1 lacks.1)
-
-lacks_if : (e : ℕ) (es : List ℕ) → (Has e es → ⊥) → Lacks e es
-lacks_if e [] h = tt
-lacks_if e (y ∷ es) h = ((λ same. h (inl same)), lacks_if e es (λ rest. h (inr rest)))
 
 entries_push : (steps : List Step) (s : Step) → entries_in (steps ++ s ∷ []) ≡ entries_in steps ++ s.entry ∷ []
 entries_push steps s = map-append (λ (t : Step). t.entry) steps (s ∷ [])

@@ -1,7 +1,8 @@
 -- One bit of a job's front: whether it is 1, and what is left of the front.
 use Rattle.std.proofs.Common.{◌≡◌, ℕ, ◌+◌, ◌-◌, ◌*◌, ◌%◌, ◌^◌, ◌<◌, ◌≤◌, List, Bool, true, false, ◌⊎◌, ap, ◌∙◌, subst, inl, inr, arith}
 use Rattle.std.specs.Prelude.{if◌then◌else◌}
-use Rattle.std.proofs.lemmas.Nat.{pow_pos, pow-add}
+use Rattle.std.proofs.lemmas.Nat.{pow_pos}
+use Rattle.common_lists.proofs.NumberLaws.{power_step}
 use Rattle.plan_rule.specs.declared.job.Job.{Job}
 use Rattle.plan_rule.specs.declared.region.Left.{Left}
 use Rattle.plan_rule.specs.Choices.{Choices}
@@ -14,10 +15,6 @@ use Rattle.plan_rule.proofs.MultipleLaws.{multiple_room, multiple_less, power_mu
 abbrev pub IsBit : ℕ → ℕ → ℕ → Bool → Type 0
 IsBit p rest next upper =
     ((upper ≡ true) × (p ≤ rest) × (next ≡ rest - p)) ⊎ ((upper ≡ false) × (rest < p) × (next ≡ rest))
-
--- the powers around a bit
-pub power_step : (t : ℕ) → t < 32 → 2 ^ (32 - t) ≡ 2 ^ (31 - t) * 2
-power_step t l = ap (λ n. 2 ^ n) (let e : 32 - t ≡ (31 - t) + 1 = omega arith in e) ∙ pow-add 2 (31 - t) 1
 
 pub next_left : (c : Choices) (front rest next t p : ℕ) (upper : Bool) (half : Left) → t < 32 → rest ≤ front → p ≡ 2 ^ (31 - t) → IsBit p rest next upper
     → IsLeft c (if upper then front - rest + 2 ^ (31 - t) else front - rest) (31 - t) half → IsLeft c (front - next) (32 - (t + 1)) half

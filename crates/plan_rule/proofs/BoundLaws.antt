@@ -92,7 +92,7 @@ IsLexLess-asym p q h k = elim (cases_order h.place k.place) [
 ]
 
 -- a literal of a box on a block, above a code, keeps the plan's code above it
-above_code : (box : List Literal) (q : List ℕ) (j d : ℕ) → Holds box q → Any (λ l. (l.block ≡ j) × (d < l.lo)) box → d < code_of q j
+pub above_code : (box : List Literal) (q : List ℕ) (j d : ℕ) → Holds box q → Any (λ l. (l.block ≡ j) × (d < l.lo)) box → d < code_of q j
 above_code box q j d h (k, l, within, is, (at, above)) =
     let two : (l.lo ≤ code_of q l.block) × (code_of q l.block < l.hi) =
     All-contains (λ l. (l.lo ≤ code_of q l.block) × (code_of q l.block < l.hi)) box l h (k, within, is) in
@@ -100,7 +100,7 @@ above_code box q j d h (k, l, within, is, (at, above)) =
     omega (arith, two.0)
 
 -- past its end a plan has the code 0
-code_past : (c : Choices) (p : List ℕ) (b : ℕ) → IsPlan c p → blocks c ≤ b → code_of p b ≡ 0
+pub code_past : (c : Choices) (p : List ℕ) (b : ℕ) → IsPlan c p → blocks c ≤ b → code_of p b ≡ 0
 code_past c p b h l = get_or_past p b 0 (let e = h.one_each in omega arith)
 
 -- a plan in a box that is behind p is not lexicographically before p

@@ -1,8 +1,9 @@
 -- A clash of two codes is a clash of their placements, and it is mutual.
-use Rattle.std.proofs.Common.{◌≡◌, ℕ, zero, suc, ◌<◌, Bool, true, false, List, [], ◌∷◌, length, Some, refl, sym, ◌∙◌, subst, arith, inl, inr}
+use Rattle.std.proofs.Common.{◌≡◌, ℕ, ◌<◌, Bool, true, false, List, length, Some, refl, sym, ◌∙◌, subst, inl, inr}
 use Rattle.std.specs.Prelude.{◌↔◌, IsTrue, not, slice_get}
 use Rattle.std.proofs.lemmas.Option.{same_Some}
 use Rattle.std.proofs.lemmas.Bool.{false≢true, cases_order}
+use Rattle.common_lists.proofs.ListLaws.{element_at}
 use Rattle.shape_exact.specs.Yards.{PlainYard}
 use Rattle.shape_exact.specs.Shapes.{AreApart, turned}
 use Rattle.shape_exact.specs.declared.block.Block.{Block}
@@ -39,11 +40,6 @@ clash-sym yard a code_a b code_b h = record {
   q_is = h.p_is;
   clash = placements_clash-sym h.one h.p h.two h.q h.clash;
 }
-
-pub element : {A : Type 0} (xs : List A) (i : ℕ) → i < length xs → (x : A) × (slice_get xs i ≡ Some x)
-element [] i l = absurd (omega arith)
-element (x ∷ xs) zero l = (x, refl)
-element (x ∷ xs) (suc i) l = element xs i (omega arith)
 
 -- what is at a code is a placement of the block
 pub placed : (yard : PlainYard) (b code : ℕ) (block : Block) (p : Placement) → slice_get yard.blocks b ≡ Some block
@@ -87,8 +83,8 @@ by_places yard a code_a b code_b p q first second true s may told = (
       (subst (λ g. AreApart first (place_of p) g (place_of q)) (s.second_is h.two h.two_is) (told.0 refl)))),
 )
 by_places yard a code_a b code_b p q first second false s may told =
-    let (one, one_is) = element yard.blocks a s.first_block in
-    let (two, two_is) = element yard.blocks b s.second_block in (
+    let (one, one_is) = element_at yard.blocks a s.first_block in
+    let (two, two_is) = element_at yard.blocks b s.second_block in (
       λ t. record {
         one = one;
         two = two;

@@ -1,12 +1,13 @@
 -- Which blocks are exact in a box.
-use Rattle.std.proofs.Common.{◌≡◌, ◌≢◌, ℕ, zero, suc, ◌+◌, List, [], ◌∷◌, ◌++◌, Option, Some, None, refl, ap, ◌∙◌, arith}
+use Rattle.std.proofs.Common.{◌≡◌, ◌≢◌, ℕ, zero, suc, ◌+◌, List, [], ◌∷◌, ◌++◌, Option, Some, None, refl, ap, ◌∙◌, arith, ◌≤◌}
 use Rattle.std.specs.Prelude.{slice_get, ◌==◌, if◌then◌else◌}
 use Rattle.std.specs.List.{AllWithin}
 use Rattle.std.proofs.lemmas.Bool.{eq-eqb, ne_eqb, cond-true, cond-false}
-use Rattle.std.proofs.lemmas.Option.{none-some, same_Some}
+use Rattle.std.proofs.lemmas.Option.{none-some, same_Some, slice_get_within}
 use Rattle.std.proofs.lemmas.List.Elements.{All-head, All-tail}
+use Rattle.common_lists.proofs.ListLaws.{element_at}
 use Rattle.plan_rule.specs.declared.literal.Literal.{Literal}
-use Rattle.plan_rule.specs.Boxes.{LeavesFree, exact_code}
+use Rattle.plan_rule.specs.Boxes.{LeavesFree, exact_code, IsAscending}
 
 -- the code of a literal of one code
 abbrev code_alone : Literal → Option ℕ
@@ -39,3 +40,13 @@ exact_first (m ∷ box) zero b l none at on =
 exact_first (m ∷ box) (suc i) b l none at on =
     cond-false (m.block == b) (code_alone m) (exact_code box b) (ne_eqb m.block b (none 0 m (omega arith) (omega arith)))
     ∙ exact_first box i b l (λ k d low high. none (suc k) d (omega arith) (omega arith)) at on
+
+-- in ascending order no literal is past its block
+pub place-le-block : (box : List Literal) (k : ℕ) (l : Literal) → IsAscending box → slice_get box k ≡ Some l → k ≤ l.block
+place-le-block box zero l up at = omega arith
+place-le-block box (suc k) l up at =
+    let within = slice_get_within box (suc k) l at in
+    let (m, here) = element_at box k (omega arith) in
+    let low = place-le-block box k m up here in
+    let less = up k (suc k) m l (omega arith) here at in
+    omega arith

@@ -1,6 +1,7 @@
 -- Where a plan is feasible there is a best one, if it can be told which codes clash and which meet a piece.
 use Rattle.std.proofs.Common.{◌≡◌, ◌≢◌, ℕ, zero, suc, ◌+◌, ◌<◌, List, [], ◌∷◌, ◌++◌, length, Option, Some, None, ◌⊎◌, sym, subst, inl, inr, arith, length-append}
 use Rattle.std.proofs.lemmas.Bool.{cases_lt, cases_order}
+use Rattle.common_lists.proofs.NumberLaws.{all_or_not}
 use Rattle.plan_rule.specs.Choices.{Choices, MeetsSome, blocks, count}
 use Rattle.plan_rule.specs.Plans.{code_of, IsFeasible, IsBefore, IsBest, IsAnswer, IsLeastOn, Improves}
 use Rattle.plan_rule.proofs.OrderLaws.{before_cases, before_trans}
@@ -10,20 +11,6 @@ use Rattle.plan_rule.proofs.SearchLaws.{children_cover, leaf, leaf_keeps, leaf_t
 pub record IsDecided (c : Choices) : Type 0 where
   pub clash : (a x b y : ℕ) → c.Clash a x b y ⊎ (c.Clash a x b y → ⊥)
   pub meets : (b x : ℕ) → MeetsSome c b x ⊎ (MeetsSome c b x → ⊥)
-
--- what can be told of each number below n can be told of all
-all_or_not : (P : ℕ → Type 0) (n : ℕ) → ((k : ℕ) → P k ⊎ (P k → ⊥)) → ((k : ℕ) → k < n → P k) ⊎ (((k : ℕ) → k < n → P k) → ⊥)
-all_or_not P zero told = inl (λ k l. absurd (omega arith))
-all_or_not P (suc n) told = elim (all_or_not P n told) [
-  | inr broken ↦ inr (λ h. broken (λ k l. h k (omega arith)))
-  | inl below ↦ elim (told n) [
-    | inr broken ↦ inr (λ h. broken (h n (omega arith)))
-    | inl here ↦ inl (λ k l. elim (cases_order k n) [
-      | inl e ↦ subst P (sym e) here
-      | inr differ ↦ elim differ [ inl m ↦ below k m | inr m ↦ absurd (omega arith) ]
-    ])
-  ]
-]
 
 -- two codes of a plan do not clash
 abbrev AreClear : Choices → List ℕ → ℕ → ℕ → Type 0

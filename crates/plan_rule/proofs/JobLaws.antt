@@ -2,6 +2,7 @@
 use Rattle.std.proofs.Common.{◌≡◌, ℕ, ◌+◌, ◌-◌, ◌*◌, ◌/◌, ◌%◌, ◌^◌, ◌<◌, ◌≤◌, sym, ap, ◌∙◌, subst, inl, inr, arith}
 use Rattle.std.proofs.lemmas.Bool.{cases_lt}
 use Rattle.std.proofs.lemmas.Nat.{pow_pos, pow-add, div-add-mod', mul-le, mod-mul-add}
+use Rattle.common_lists.proofs.NumberLaws.{power_step}
 use Rattle.plan_rule.specs.declared.job.Job.{Job}
 use Rattle.plan_rule.specs.Jobs.{IsJob, lower, upper}
 
@@ -31,16 +32,10 @@ multiple front w v pos twice low =
     let odd : front + v ≡ (2 * k + 1) * v + 0 = omega arith in
     (ap (λ n. n % v) even ∙ mod-mul-add (2 * k) v 0 pos, ap (λ n. n % v) odd ∙ mod-mul-add (2 * k + 1) v 0 pos)
 
--- the widths of a job and of its halves
-pub half_width : (length : ℕ) → length < 32 → 2 ^ (32 - length) ≡ 2 ^ (31 - length) * 2
-half_width length l =
-    ap (λ n. 2 ^ n) (let e : 32 - length ≡ (31 - length) + 1 = omega arith in e)
-    ∙ pow-add 2 (31 - length) 1
-
 -- the halves of a job are jobs
 pub halves_are : (job : Job) → job.length < 32 → IsJob job → IsJob (lower job) × IsJob (upper job)
 halves_are job l is =
-    let twice : 2 ^ (32 - job.length) ≡ 2 ^ (31 - job.length) * 2 = half_width job.length l in
+    let twice : 2 ^ (32 - job.length) ≡ 2 ^ (31 - job.length) * 2 = power_step job.length l in
     let pos : 0 < 2 ^ (31 - job.length) = pow_pos (31 - job.length) in
     let fits : job.front + 2 ^ (32 - job.length) ≤ 2 ^ 32 = room job.front job.length is.length is.bits is.low in
     let (low, high) = multiple job.front (2 ^ (32 - job.length)) (2 ^ (31 - job.length)) pos twice is.low in

@@ -29,3 +29,7 @@ pub mod Rows
 pub mod RegionBoxLaws
 pub mod TellLaws
 pub mod MeetingLaws
+pub mod WithLaws
+pub mod EmptyLaws
+pub mod RestLaws
+pub mod WindowLaws

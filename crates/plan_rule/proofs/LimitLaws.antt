@@ -8,19 +8,20 @@ use Rattle.shape_exact.specs.Yards.{PlainYard, IsYard}
 use Rattle.common_lists.proofs.EachLaws.{sum-le, sum_below-const}
 use Rattle.plate_calendar.proofs.DayLaws.{end_law}
 use Rattle.code_table.specs.Placements.{placements, own_cost, cost_of, cost_on}
+use Rattle.code_table.proofs.ReadLaws.{block_limits}
 use Rattle.plan_rule.specs.Choices.{blocks, count}
 use Rattle.plan_rule.specs.Plans.{code_of, IsPlan, total}
 use Rattle.plan_rule.specs.Paths.{key}
 use Rattle.plan_rule.specs.Yards.{choices}
 use Rattle.plan_rule.proofs.CountLaws.{blocks-length}
 use Rattle.plan_rule.proofs.PathLaws.{path-below}
-use Rattle.plan_rule.proofs.YardLaws.{block_of, coded}
+use Rattle.plan_rule.proofs.YardLaws.{coded}
 
 -- an own cost is at most the greatest weight, or the greatest early cost, times the days before the last
 pub cost-le : (yard : PlainYard) (b code : ℕ) → IsYard yard → b < blocks (choices yard) → code < count (choices yard) b → own_cost yard b code ≤ 399000
 cost-le yard b code is l m =
     let c = coded yard b code l m in
-    let block = block_of yard b c.block is c.block_is in
+    let block = block_limits yard b c.block is c.block_is in
     let (before, below, open') = end_law yard.days c.p.start c.block.duration c.p.end c.is.plate.closed (let d = block.duration in omega arith) c.is.end_is in
     let days = is.days in
     let weight = block.weight in

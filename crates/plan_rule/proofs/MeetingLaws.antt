@@ -4,6 +4,7 @@ use Rattle.std.specs.Prelude.{slice_get}
 use Rattle.std.proofs.lemmas.Option.{same_Some, slice_get_within, slice_get-get_or, get_or_from_slice_get}
 use Rattle.std.proofs.lemmas.Bool.{cases_lt}
 use Rattle.std.proofs.lemmas.List.Elements.{All-contains}
+use Rattle.common_lists.proofs.ListLaws.{element_at}
 use Rattle.shape_exact.specs.Yards.{PlainYard, IsYard, IsPiece}
 use Rattle.shape_exact.proofs.YardLaws as yards
 use Rattle.shape_exact.specs.declared.block.Block.{Block}
@@ -15,7 +16,6 @@ use Rattle.plan_rule.specs.Choices.{Choices, MeetsSome, blocks}
 use Rattle.plan_rule.specs.Pieces.{IsFirstMet}
 use Rattle.plan_rule.specs.Plans.{code_of, MeetsNone}
 use Rattle.plan_rule.specs.Yards.{choices}
-use Rattle.plan_rule.proofs.ClashLaws.{element}
 
 -- a piece of a yard has coordinates of at most 400
 pub piece_near : (yard : PlainYard) (f : Fixed) → IsYard yard → IsPiece yard.days yard.plates f → (f.x ≤ 400) × (f.y ≤ 400)
@@ -30,7 +30,7 @@ pub meets_at : (yard : PlainYard) (b code i : ℕ) (p : Placement) (f : Fixed) �
     → slice_get (placements yard b) code ≡ Some p → slice_get yard.fixed i ≡ Some f
     → ((block : Block) → slice_get yard.blocks b ≡ Some block → MeetPiece block p f) → MeetsPiece yard b code i
 meets_at yard b code i p f l p_is f_is meet =
-    let (block, is) = element yard.blocks b l in
+    let (block, is) = element_at yard.blocks b l in
     record { block = block; p = p; piece = f; block_is = is; p_is = p_is; piece_is = f_is; meet = meet block is }
 
 pub misses_at : (yard : PlainYard) (b code i : ℕ) (p : Placement) (f : Fixed)

@@ -4,17 +4,17 @@ use Rattle.std.proofs.lemmas.Bool.{cases_order}
 use Rattle.plan_rule.specs.Choices.{Choices}
 use Rattle.plan_rule.specs.Plans.{code_of, IsPlan, total, IsLexLess, IsBefore, IsBest}
 
-lex_same : (c d : ℕ) (p q : List ℕ) (place : ℕ) → c ≡ d → ((b : ℕ) → b < place → code_of p b ≡ code_of q b)
+pub lex_same : (c d : ℕ) (p q : List ℕ) (place : ℕ) → c ≡ d → ((b : ℕ) → b < place → code_of p b ≡ code_of q b)
     → (b : ℕ) → b < suc place → code_of (c ∷ p) b ≡ code_of (d ∷ q) b
 lex_same c d p q place e same zero l = e
 lex_same c d p q place e same (suc b) l = same b (omega arith)
 
 -- one element more at the front of both
-lex_deeper : (c d : ℕ) (p q : List ℕ) → c ≡ d → IsLexLess p q → IsLexLess (c ∷ p) (d ∷ q)
+pub lex_deeper : (c d : ℕ) (p q : List ℕ) → c ≡ d → IsLexLess p q → IsLexLess (c ∷ p) (d ∷ q)
 lex_deeper c d p q e l = record { place = suc l.place; same = lex_same c d p q l.place e l.same; less = l.less }
 
 -- of two lists of one length, they are equal or one is less
-lex_cases : (p q : List ℕ) → length p ≡ length q → (p ≡ q) ⊎ (IsLexLess p q ⊎ IsLexLess q p)
+pub lex_cases : (p q : List ℕ) → length p ≡ length q → (p ≡ q) ⊎ (IsLexLess p q ⊎ IsLexLess q p)
 lex_cases [] [] e = inl refl
 lex_cases [] (d ∷ q) e = absurd (omega arith)
 lex_cases (c ∷ p) [] e = absurd (omega arith)

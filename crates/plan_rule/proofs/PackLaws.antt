@@ -4,6 +4,7 @@ use Rattle.std.specs.Prelude.{◌&&◌, nat_le, nat_lt, ◌==◌, not, slice_get
 use Rattle.std.specs.Option.{option_map_or}
 use Rattle.std.proofs.lemmas.Bool.{and_from, and_parts, eq-eqb, leb-true, le-leb, eqb-true, false≢true, cases_lt, lt-ltb, ltb-true}
 use Rattle.std.proofs.lemmas.Option.{slice_get_within}
+use Rattle.common_lists.proofs.ListLaws.{if_true}
 use Rattle.shape_exact.specs.Yards.{PlainYard, IsYard, IsPiece, StandApart, piece_at}
 use Rattle.shape_exact.specs.declared.fixed.Fixed.{Fixed}
 use Rattle.shape_exact.proofs.YardLaws.{all_pairs_get}
@@ -135,7 +136,7 @@ taken-le yard block p first last is turn =
     let one = sum_below-le (length yard.plates) p.plate (covered_at yard first last (Some block) (Some p)) (slice_get_within yard.plates p.plate is.plate is.plate_is) in
     omega (arith, left, middle, here, one)
 
-one_if-le : (b : Bool) → one_if b ≤ 1
+pub one_if-le : (b : Bool) → one_if b ≤ 1
 one_if-le true = omega arith
 one_if-le false = omega arith
 
@@ -207,10 +208,6 @@ alone_piece yard q b k pl d j i f l x y =
 abbrev pub any_covers : PlainYard → List ℕ → ℕ → ℕ → ℕ → ℕ → ℕ → Bool
 any_covers yard q n pl d j i =
     if nat_lt n (length yard.fixed) then piece_covers yard n pl d j i else plan_covers yard q (n - length yard.fixed) pl d j i
-
-if_true : {A : Type 0} (t : Bool) (x y : A) → t ≡ true → (if t then x else y) ≡ x
-if_true true x y e = refl
-if_true false x y e = absurd (false≢true e)
 
 if_false : {A : Type 0} (t : Bool) (x y : A) → (t ≡ true → ⊥) → (if t then x else y) ≡ y
 if_false true x y e = absurd (e refl)

@@ -74,7 +74,7 @@ in_interval c front w left q is few plan (same, next) =
     let below = number-below w (tail_of 32 is.m left.lo left.hi (drop k c.counts) r) in
     (omega arith, omega arith)
 
-zeros : (n i : ℕ) → code_of (replicate n 0) i ≡ 0
+pub zeros : (n i : ℕ) → code_of (replicate n 0) i ≡ 0
 zeros zero i = refl
 zeros (suc n) zero = refl
 zeros (suc n) (suc i) = zeros n i

@@ -5,6 +5,7 @@ use Rattle.std.proofs.lemmas.List.Elements.{All-contains}
 use Rattle.std.proofs.lemmas.List.Sorted.{IsPermutation-sym, Contains-permutation}
 use Rattle.std.proofs.lemmas.Bool.{cases_lt}
 use Rattle.std.proofs.lemmas.Option.{none-some}
+use Rattle.common_lists.proofs.ListLaws.{contains_there}
 use Rattle.plan_rule.specs.declared.job.Job.{Job}
 use Rattle.plan_rule.specs.Choices.{Choices}
 use Rattle.plan_rule.specs.Plans.{IsPlan, IsFeasible, total, IsBefore, IsBest}
@@ -13,15 +14,12 @@ use Rattle.plan_rule.proofs.PathLaws.{path-below, key-before}
 use Rattle.plan_rule.proofs.OrderLaws.{before_cases, before_trans}
 use Rattle.plan_rule.specs.Reports.{JobReport, IsBar, IsReached, IsLeast, IsBestOf, AreReports}
 
-Contains-cons : {X : Type 0} (y : X) (xs : List X) (x : X) → Contains xs x → Contains (y ∷ xs) x
-Contains-cons y xs x (k, l, e) = (suc k, omega arith, e)
-
 -- an element of a list's images is the image of an element
 image_of : {X Y : Type 0} (f : X → Y) (xs : List X) (y : Y) (k : ℕ) → k < length (map f xs) → get_or (map f xs) k y ≡ y
     → (x : X) × Contains xs x × (f x ≡ y)
 image_of f [] y k l e = absurd (omega arith)
 image_of f (x ∷ xs) y zero l e = (x, (0, omega arith, refl), e)
-image_of f (x ∷ xs) y (suc k) l e = let (z, inside, is) = image_of f xs y k (omega arith) e in (z, Contains-cons x xs z inside, is)
+image_of f (x ∷ xs) y (suc k) l e = let (z, inside, is) = image_of f xs y k (omega arith) e in (z, contains_there x xs z inside, is)
 
 -- a number between the ends of a chain lies in the interval of one of its jobs
 chain_has : (from to n : ℕ) (jobs : List Job) → IsChain from jobs to → from ≤ n → n < to
@@ -31,7 +29,7 @@ chain_has from to n (job ∷ jobs) (first, rest) l m = elim (cases_lt n (from + 
   | inl here ↦ (job, (0, omega arith, refl), omega arith, omega arith)
   | inr later ↦
       let (j, inside, a, b) = chain_has (from + width job) to n jobs rest later m in
-      (j, Contains-cons job jobs j inside, a, b)
+      (j, contains_there job jobs j inside, a, b)
 ]
 
 -- a report of the list has the plan in its region

@@ -5,11 +5,11 @@ use Rattle.std.proofs.lemmas.Int.{ints}
 use Rattle.std.specs.Prelude.{slice_get, All, Any}
 use lib.Signed.{◌<ℤ◌, ◌≤ℤ◌}
 use Rattle.std.proofs.lemmas.Bool.{cases_lt, cases_order}
-use Rattle.std.proofs.lemmas.Option.{none-some, same_Some, slice_get_within, get_or_from_slice_get}
-use Rattle.std.proofs.lemmas.List.Elements.{All-nil, All-cons, All-contains}
+use Rattle.std.proofs.lemmas.Option.{none-some, same_Some, slice_get_within}
+use Rattle.std.proofs.lemmas.List.Elements.{All-nil, All-cons}
 use Rattle.shape_exact.specs.Shapes.{IsShape, AreApart, turned, edges, cross}
 use Rattle.shape_exact.specs.Separation.{HasSeparatingEdge, EachEdgeSees, moved, way}
-use Rattle.shape_exact.specs.Yards.{PlainYard, IsYard, IsPiece, piece_at}
+use Rattle.shape_exact.specs.Yards.{PlainYard, IsYard, piece_at}
 use Rattle.shape_exact.specs.declared.fixed.Fixed.{Fixed}
 use Rattle.shape_exact.specs.declared.point.Point.{Point}
 use Rattle.shape_exact.specs.declared.block.Block.{Block}
@@ -17,10 +17,11 @@ use Rattle.shape_exact.proofs.ApartLaws.{separation, apart_both, shared, shared_
 use Rattle.shape_exact.proofs.FormLaws.{shape-turned}
 use Rattle.code_table.specs.declared.placement.Placement.{Placement}
 use Rattle.code_table.specs.Placements.{placements}
+use Rattle.code_table.proofs.ReadLaws.{block_limits}
 use Rattle.plan_rule.specs.Clashes.{place_of, PlacementsClash, Clash, MeetPiece, MeetsPiece}
 use Rattle.plan_rule.specs.Yards.{choices}
-use Rattle.plan_rule.proofs.YardLaws.{block_of}
 use Rattle.plan_rule.proofs.ExistLaws.{IsDecided}
+use Rattle.plan_rule.proofs.MeetingLaws.{piece_in}
 
 -- of what is one or the other of each element, one is so of all, or the other of some
 all_or_any : {A : Type 0} (P Q : A → Type 0) → ((x : A) → P x ⊎ Q x) → (xs : List A) → All P xs ⊎ Any Q xs
@@ -89,7 +90,7 @@ clash_by yard a x b y (Some one) None p q is e f g h = inr (λ c. none-some c.tw
 clash_by yard a x b y (Some one) (Some two) None q is e f g h = inr (λ c. none-some c.p (sym g ∙ c.p_is))
 clash_by yard a x b y (Some one) (Some two) (Some p) None is e f g h = inr (λ c. none-some c.q (sym h ∙ c.q_is))
 clash_by yard a x b y (Some one) (Some two) (Some p) (Some q) is e f g h =
-    elim (placements_clash_or_not one p two q (block_of yard a one is e).shape (block_of yard b two is f).shape) [
+    elim (placements_clash_or_not one p two q (block_limits yard a one is e).shape (block_limits yard b two is f).shape) [
       | inl clash ↦ inl (record { one = one; two = two; p = p; q = q; one_is = e; two_is = f; p_is = g; q_is = h; clash = clash })
       | inr free ↦ inr (λ c. free
           (subst (λ k. PlacementsClash k p two q) (same_Some _ _ (sym c.one_is ∙ e)) (subst (λ k. PlacementsClash c.one p k q) (same_Some _ _ (sym c.two_is ∙ f))
@@ -112,10 +113,6 @@ meet_piece_or_not block p f s t = elim (equal_or_not p.plate f.plate) [
   ]
 ]
 
--- the piece with this number, where there is one
-piece_of : (yard : PlainYard) (i : ℕ) (f : Fixed) → IsYard yard → slice_get yard.fixed i ≡ Some f → IsPiece yard.days yard.plates f
-piece_of yard i f is e = All-contains (IsPiece yard.days yard.plates) yard.fixed f is.fixed (i, slice_get_within yard.fixed i f e, get_or_from_slice_get yard.fixed i f f e)
-
 meets_by : (yard : PlainYard) (b x i : ℕ) (block : Option Block) (p : Option Placement) (piece : Option Fixed) → IsYard yard
     → slice_get yard.blocks b ≡ block → slice_get (placements yard b) x ≡ p → slice_get yard.fixed i ≡ piece
     → MeetsPiece yard b x i ⊎ (MeetsPiece yard b x i → ⊥)
@@ -123,7 +120,7 @@ meets_by yard b x i None p piece is e f g = inr (λ m. none-some m.block (sym e 
 meets_by yard b x i (Some block) None piece is e f g = inr (λ m. none-some m.p (sym f ∙ m.p_is))
 meets_by yard b x i (Some block) (Some p) None is e f g = inr (λ m. none-some m.piece (sym g ∙ m.piece_is))
 meets_by yard b x i (Some block) (Some p) (Some piece) is e f g =
-    elim (meet_piece_or_not block p piece (block_of yard b block is e).shape (piece_of yard i piece is g).shape) [
+    elim (meet_piece_or_not block p piece (block_limits yard b block is e).shape (piece_in yard i piece is g).shape) [
       | inl meet ↦ inl (record { block = block; p = p; piece = piece; block_is = e; p_is = f; piece_is = g; meet = meet })
       | inr free ↦ inr (λ m. free
           (subst (λ k. MeetPiece k p piece) (same_Some _ _ (sym m.block_is ∙ e)) (subst (λ k. MeetPiece m.block k piece) (same_Some _ _ (sym m.p_is ∙ f))

@@ -5,7 +5,7 @@ use Rattle.plan_rule.specs.declared.literal.Literal.{Literal}
 use Rattle.plan_rule.specs.Choices.{Choices, blocks}
 use Rattle.plan_rule.specs.Bounds.{IsLeastOf, IsSumOfLeast, IsBound, MayTake, IsCalm, IsTight, IsLeastRaise, IsEnergy}
 
-least_unique : (P : ℕ → Type 0) (value : ℕ → ℕ) (m n : ℕ) → IsLeastOf P value (Some m) → IsLeastOf P value (Some n) → m ≡ n
+pub least_unique : (P : ℕ → Type 0) (value : ℕ → ℕ) (m n : ℕ) → IsLeastOf P value (Some m) → IsLeastOf P value (Some n) → m ≡ n
 least_unique P value m n ((x, px, ex), lx) ((y, py, ey), ly) = let a = lx y py in let b = ly x px in omega arith
 
 sum_unique : (May : ℕ → ℕ → Type 0) (cost : ℕ → ℕ → ℕ) (n j k : ℕ) → IsSumOfLeast May cost n j → IsSumOfLeast May cost n k → j ≡ k

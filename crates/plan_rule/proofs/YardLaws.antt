@@ -1,12 +1,13 @@
 -- What is so of the figures of a yard.
-use Rattle.std.proofs.Common.{◌≡◌, ℕ, zero, suc, ◌+◌, ◌-◌, ◌*◌, ◌<◌, ◌≤◌, max, min, List, length, Option, Some, None, ◌⊎◌, refl, sym, ap, ◌∙◌, subst, inl, inr, arith, [], ◌∷◌}
+use Rattle.std.proofs.Common.{◌≡◌, ℕ, ◌+◌, ◌-◌, ◌*◌, ◌<◌, ◌≤◌, max, min, List, length, Option, Some, None, ◌⊎◌, refl, sym, ap, ◌∙◌, subst, inl, inr, arith}
 use Rattle.std.specs.Prelude.{slice_get}
 use Rattle.std.specs.Option.{option_map_or}
 use Rattle.std.proofs.lemmas.Bool.{cases_lt}
 use Rattle.std.proofs.lemmas.Nat.{mul-le}
 use Rattle.std.proofs.lemmas.Option.{slice_get_within, get_or_from_slice_get}
 use Rattle.std.proofs.lemmas.List.Elements.{All-contains}
-use Rattle.shape_exact.specs.Yards.{PlainYard, IsYard, IsBlock, IsPiece}
+use Rattle.common_lists.proofs.ListLaws.{element_at}
+use Rattle.shape_exact.specs.Yards.{PlainYard, IsYard, IsPiece}
 use Rattle.shape_exact.specs.declared.fixed.Fixed.{Fixed}
 use Rattle.shape_exact.specs.declared.block.Block.{Block}
 use Rattle.shape_exact.specs.Shapes.{cells}
@@ -18,17 +19,13 @@ use Rattle.plate_calendar.proofs.DayLaws.{end_law}
 use Rattle.code_table.specs.declared.placement.Placement.{Placement}
 use Rattle.code_table.specs.Placements.{placements, placements_of, own_cost, cost_of, cost_on, IsPlacement}
 use Rattle.code_table.proofs.PlacedLaws.{placed-facts}
+use Rattle.code_table.proofs.ReadLaws.{block_limits}
 use Rattle.plan_rule.specs.Choices.{blocks, count}
 use Rattle.plan_rule.specs.Plans.{code_of, IsFeasible}
 use Rattle.plan_rule.specs.Yards.{figure, plate_days, capacity, taken_by, taken, stood_by, standing, choices}
 use Rattle.plan_rule.proofs.CountLaws.{blocks-length, count-length}
 use Rattle.plan_rule.proofs.EnergyLaws.{IsPacked}
 use Rattle.plan_rule.proofs.PackLaws.{covered_at, stood_of, piece_at_plate, block_at_plate, taken-le, stood-le, plate-le}
-
--- a block of a yard is within the limits
-pub block_of : (yard : PlainYard) (b : ℕ) (block : Block) → IsYard yard → slice_get yard.blocks b ≡ Some block → IsBlock block
-block_of yard b block is at =
-    All-contains IsBlock yard.blocks block is.blocks (b, slice_get_within yard.blocks b block at, get_or_from_slice_get yard.blocks b block block at)
 
 -- a code of a block
 pub record Coded (yard : PlainYard) (b code : ℕ) : Type 0 where
@@ -38,18 +35,13 @@ pub record Coded (yard : PlainYard) (b code : ℕ) : Type 0 where
   pub p_is : slice_get (placements yard b) code ≡ Some p
   pub is : IsPlacement yard block p
 
-element : {A : Type 0} (xs : List A) (i : ℕ) → i < length xs → (x : A) × (slice_get xs i ≡ Some x)
-element [] i l = absurd (omega arith)
-element (x ∷ xs) zero l = (x, refl)
-element (x ∷ xs) (suc i) l = element xs i (omega arith)
-
 pub coded : (yard : PlainYard) (b code : ℕ) → b < blocks (choices yard) → code < count (choices yard) b → Coded yard b code
 coded yard b code l m =
     let n = blocks-length yard in
     let k : b < length yard.blocks = omega arith in
     let c = count-length yard b k in
-    let (block, block_is) = element yard.blocks b k in
-    let (p, p_is) = element (placements yard b) code (omega arith) in
+    let (block, block_is) = element_at yard.blocks b k in
+    let (p, p_is) = element_at (placements yard b) code (omega arith) in
     let same : placements yard b ≡ placements_of yard block = ap (λ o. for_some o (placements_of yard)) block_is in
     record {
       block = block;
@@ -66,7 +58,7 @@ code-le : (yard : PlainYard) (q : List ℕ) (first last b : ℕ) → IsYard yard
 unfolding taken
 code-le yard q first last b fit f l =
     let c = coded yard b (code_of q b) l (f.is_plan.in_range b l) in
-    let le = taken-le yard c.block c.p first last c.is (let (n, same) = turns_keep c.p.turn c.block.shape (normal c.block.shape (block_of yard b c.block fit c.block_is).shape) in omega arith) in
+    let le = taken-le yard c.block c.p first last c.is (let (n, same) = turns_keep c.p.turn c.block.shape (normal c.block.shape (block_limits yard b c.block fit c.block_is).shape) in omega arith) in
     subst (λ o. taken_by yard first last o (slice_get (placements yard b) (code_of q b)) ≤ sum_below (length yard.plates) (covered_at yard first last o (slice_get (placements yard b) (code_of q b))))
     (sym c.block_is)
     (subst (λ r. taken_by yard first last (Some c.block) r ≤ sum_below (length yard.plates) (covered_at yard first last (Some c.block) r)) (sym c.p_is) le)
@@ -108,7 +100,7 @@ unfolding taken
 whole_or_late-choices yard b code first last fit l m early due =
     let c = coded yard b code l m in
     let at : (f : Block → ℕ) → figure yard f b ≡ f c.block = λ f. ap (λ o. option_map_or f o 0) c.block_is in
-    let (before, in_days, days) = end_law yard.days c.p.start c.block.duration c.p.end c.is.plate.closed (let d = (block_of yard b c.block fit c.block_is).duration in omega arith) c.is.end_is in
+    let (before, in_days, days) = end_law yard.days c.p.start c.block.duration c.p.end c.is.plate.closed (let d = (block_limits yard b c.block fit c.block_is).duration in omega arith) c.is.end_is in
     let released = c.is.released in
     let r = at (λ block. block.release) in
     let d = at (λ block. block.due) in

@@ -8,12 +8,13 @@ use Rattle.std.proofs.lemmas.Bool.{cases_Bool, eq-eqb}
 use Rattle.std.proofs.lemmas.Option.{slice_get_within}
 use Rattle.std.proofs.lemmas.Slice.Eq.{bytes_eq-Decides}
 use Rattle.std.proofs.lemmas.List.Splits.{join_with_byte-slice_split}
+use Rattle.common_lists.proofs.ListLaws.{element_at}
 use Rattle.text_parts.specs.Parts.{cut}
 use Rattle.text_parts.proofs.CutLaws.{Lacks, cut-again}
 use Rattle.shape_exact.specs.Yards.{PlainYard, IsYard, IsBlock}
 use Rattle.shape_exact.specs.declared.block.Block.{Block}
 use Rattle.code_table.specs.Placements.{placements, placements_of}
-use Rattle.code_table.proofs.ReadLaws.{some_at, block_limits}
+use Rattle.code_table.proofs.ReadLaws.{block_limits}
 use Rattle.code_table.proofs.StandLaws.{placements-of}
 use Rattle.plan_rule.specs.Plans.{code_of, IsPlan, total}
 use Rattle.plan_rule.specs.Yards.{choices}
@@ -88,7 +89,7 @@ rows-again yard [] [] n rest limits fit have = refl
 rows-again yard [] (c ∷ cs) n rest limits fit have = absurd have
 rows-again yard (b ∷ bs) [] n rest limits fit have = absurd have
 rows-again yard (b ∷ bs) (c ∷ cs) n rest limits fit have =
-    let (p, there) = some_at (placements_of yard b) c have.0 in
+    let (p, there) = element_at (placements_of yard b) c have.0 in
     let first : List ℕ = row_text (tells yard b p) in
     let others : List ℕ = rows_at yard bs cs ++ rest in
     let text : (row_at yard (Some b) (slice_get (placements_of yard b) c) ++ rows_at yard bs cs) ++ rest ≡ first ++ 10 ∷ others =

@@ -34,7 +34,7 @@ and_true : (a b c : Bool) → c ≡ true → (a && (b && c)) ≡ (a && b)
 and_true a true c e = ap (λ c. a && c) e
 and_true a false c e = refl
 
-and_last_false : (a b c : Bool) → c ≡ false → one_if (a && (b && c)) ≡ 0
+pub and_last_false : (a b c : Bool) → c ≡ false → one_if (a && (b && c)) ≡ 0
 and_last_false a true c e = ap (λ c. one_if (a && c)) e ∙ none_if a
   where
     none_if : (a : Bool) → one_if (a && false) ≡ 0

@@ -1,8 +1,9 @@
 -- What the counts of a calendar answer.
-use Rattle.std.proofs.Common.{◌≡◌, ℕ, zero, suc, ◌+◌, ◌-◌, ◌≤◌, ◌<◌, List, [], ◌∷◌, drop, true, false, refl, sym, ap, ◌∙◌, arith, inl, inr, nat_lt, nat_le, min, get_or, cond}
+use Rattle.std.proofs.Common.{◌≡◌, ℕ, ◌+◌, ◌-◌, ◌≤◌, ◌<◌, List, true, false, sym, ap, ◌∙◌, arith, inl, inr, nat_lt, nat_le, min, get_or, cond}
 use Rattle.std.specs.Prelude.{slice_get, filter, None}
 use Rattle.std.proofs.lemmas.Bool.{cases_lt, false≢true}
 use Rattle.std.proofs.lemmas.List.Sums.{count_by-le-length}
+use Rattle.common_lists.proofs.ListLaws.{get_drop}
 use Rattle.shape_exact.specs.Days.{has_day, are_days}
 use Rattle.shape_exact.proofs.DayLaws.{few_days}
 use Rattle.plate_calendar.specs.Calendars.{end_of, open_between}
@@ -37,19 +38,13 @@ day_below opens d a h = elim (cases_lt d 400) [
   | inr past ↦ absurd (false≢true (sym (has_day-past 0 400 d opens past a) ∙ h))
 ]
 
-slice_get-drop : (n k : ℕ) (xs : List ℕ) → slice_get (drop n xs) k ≡ slice_get xs (n + k)
-slice_get-drop zero k xs = ap (slice_get xs) (let e : k ≡ zero + k = omega arith in e)
-slice_get-drop (suc n) k [] = refl
-slice_get-drop (suc n) k (x ∷ xs) =
-    slice_get-drop n k xs ∙ ap (slice_get (x ∷ xs)) (let e : suc (n + k) ≡ suc n + k = omega arith in e)
-
 -- the end stands in the list so many places after the days below the start
 pub end_at : (opens counts : List ℕ) (start duration : ℕ) → IsCounted opens counts → has_day start opens ≡ true
     → slice_get opens (get_or counts start 0 + (duration - 1)) ≡ end_of opens start duration
 end_at opens counts start duration c h =
     let low = day_below opens start c.ascending h in
     ap (λ n. slice_get opens (n + (duration - 1))) (c.counted start (omega arith))
-    ∙ sym (slice_get-drop (count_below start opens) (duration - 1) opens)
+    ∙ sym (get_drop (count_below start opens) (duration - 1) opens)
     ∙ ap (λ ds. slice_get ds (duration - 1)) (sym (filter_from start 0 400 opens c.ascending))
     ∙ ap (λ b. cond b (slice_get (filter (λ d. nat_le start d) opens) (duration - 1)) None) (sym h)
 

@@ -1,16 +1,15 @@
 -- An accepted log shows that its answer is the best.
-use Rattle.std.proofs.Common.{⊎_elim, ◌≡◌, ◌≢◌, ℕ, zero, suc, ◌+◌, ◌<◌, ◌≤◌, List, [], ◌∷◌, ◌++◌, length, take, Bool, true, false, cond, Option, Some, None, ◌⊎◌, refl, sym, ap, ◌∙◌, subst, inl, inr, arith, eqb}
+use Rattle.std.proofs.Common.{◌≡◌, ◌≢◌, ℕ, zero, suc, ◌<◌, List, ◌∷◌, length, take, Bool, true, false, cond, Option, Some, None, refl, sym, ◌∙◌, subst, inl, inr, arith}
 use Rattle.std.specs.Prelude.{◌&&◌, ◌==◌, nat_lt, slice_get}
-use Rattle.std.specs.List.{All, Contains, filter}
-use Rattle.std.proofs.lemmas.Bool.{eqb-true, and_parts, cases_Bool, cond_both, cases_lt}
-use Rattle.std.proofs.lemmas.List.Elements.{All-contains, All-nil, All-append, All-cons, All-filter, All-weaker}
-use Rattle.std.proofs.lemmas.Option.{none-some, same_Some, slice_get-get_or, get_or_from_slice_get, slice_get_within}
-use Rattle.std.proofs.lemmas.List.{get_or-take, length-take-le}
+use Rattle.std.specs.List.{All, filter}
+use Rattle.std.proofs.lemmas.Bool.{eqb-true, and_parts, cond_both}
+use Rattle.std.proofs.lemmas.List.Elements.{All-nil, All-append, All-cons, All-filter, All-weaker}
+use Rattle.std.proofs.lemmas.Option.{same_Some, slice_get_within}
+use Rattle.common_lists.proofs.ListLaws.{get_taken}
 use Rattle.plan_rule.specs.declared.literal.Literal.{Literal}
 use Rattle.plan_rule.specs.Choices.{Choices, blocks, count}
-use Rattle.plan_rule.specs.Plans.{code_of, IsPlan, IsFeasible, total, IsBefore, IsBest, IsAnswer, IsNotBefore}
-use Rattle.plan_rule.specs.Boxes.{IsBox, IsLiteral, Holds, LeavesFree, HasExact, Covers, exact, with_literal}
-use Rattle.plan_rule.specs.Bounds.{IsBase, IsFit, Refutes, IsAtMost}
+use Rattle.plan_rule.specs.Plans.{code_of, IsPlan, IsFeasible, IsBest, IsAnswer, IsNotBefore}
+use Rattle.plan_rule.specs.Boxes.{IsBox, IsLiteral, Holds, LeavesFree, exact, with_literal}
 use Rattle.plan_rule.proofs.BoundLaws.{exact-all, base-at_most, fit-at_most, refuted, held_code, held_block}
 use Rattle.plan_rule.proofs.EnergyLaws.{IsPacked, energy-at_most}
 use Rattle.plan_rule.proofs.BoxLaws.{HoldsCode, held_with, held_without, held_covered}
@@ -19,7 +18,7 @@ use Rattle.plan_rule.specs.Yards.{choices}
 use Rattle.plan_rule.proofs.YardLaws.{packed}
 use Rattle.refutation_log.specs.declared.record.Record.{Record}
 use Rattle.refutation_log.specs.declared.record.Record.TheVariants.{Branch, Fit, Energy}
-use Rattle.refutation_log.specs.Steps.{result_of, IsCited, IsCovered, IsRange, IsBranch, IsStep, IsStepAt, IsAccepted}
+use Rattle.refutation_log.specs.Steps.{result_of, IsBranch, IsStep, IsStepAt, IsAccepted}
 
 -- the record's result holds no feasible plan before the answer
 abbrev pub Shows : Choices → Option (List ℕ) → Record → Type 0
@@ -47,7 +46,7 @@ exist-result c t earlier (Fit side) s = exist-box c side s.0
 exist-result c t earlier (Energy from to side) s = exist-box c side s.0
 
 -- a plan in a side, or in a side with a literal more, is in the side and has a code in the literal's range
-either_held : (l : Literal) (side : List Literal) (q : List ℕ) (whole : Bool) → LeavesFree side l.block → (whole ≡ true → HoldsCode q l)
+pub either_held : (l : Literal) (side : List Literal) (q : List ℕ) (whole : Bool) → LeavesFree side l.block → (whole ≡ true → HoldsCode q l)
     → Holds (cond whole side (with_literal side l)) q → Holds side q × HoldsCode q l
 either_held l side q true free w h = (h, w refl)
 either_held l side q false free w h = held_without side l q free h
@@ -95,13 +94,6 @@ step_shows c t earlier (Fit side) en a before (w, (k, is, ref)) q p h =
 step_shows c t earlier (Energy from to side) en a before (w, first, last, (k, is, ref)) q p h =
     refuted c t side q k a p.is_plan h (energy-at_most c from to side k q en is p h) ref
 
--- what stands in the front of a list stands in the list
-taken : {X : Type 0} (xs : List X) (i k : ℕ) (x : X) → slice_get (take i xs) k ≡ Some x → (k < i) × (slice_get xs k ≡ Some x)
-taken xs zero k x e = absurd (none-some x e)
-taken [] (suc i) k x e = absurd (none-some x e)
-taken (y ∷ xs) (suc i) zero x e = (omega arith, e)
-taken (y ∷ xs) (suc i) (suc k) x e = let (l, f) = taken xs i k x e in (omega arith, f)
-
 -- each record of a list of steps shows its result
 steps_show : (c : Choices) (t : Option (List ℕ)) (log : List Record) (n : ℕ) → IsPacked c → IsAnswer c t
     → ((i : ℕ) → i < n → i < length log → IsStepAt c t log i) → (i : ℕ) (r : Record) → i < n → slice_get log i ≡ Some r
@@ -111,7 +103,7 @@ steps_show c t log (suc n) en a steps i r l e =
     let (r', f, step) = steps i l (slice_get_within log i r e) in
     let step : IsStep c t (take i log) r = subst (IsStep c t (take i log)) (same_Some r' r (sym f ∙ e)) step in (
       step_shows c t (take i log) r en a
-          (λ k e' at. let (m, g) = taken log i k e' at in
+          (λ k e' at. let (m, g) = get_taken log i k e' at in
           steps_show c t log n en a (λ j m'. steps j (omega arith)) k e' (omega arith) g) step,
       exist-result c t (take i log) r step,
     )

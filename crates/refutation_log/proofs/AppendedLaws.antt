@@ -4,7 +4,7 @@ use Rattle.std.specs.Prelude.{slice_get}
 use Rattle.std.specs.List.{All, Contains}
 use Rattle.std.proofs.lemmas.List.Elements.{All-head, All-tail, All-nil, All-cons}
 use Rattle.std.proofs.lemmas.Bool.{cases_lt}
-use Rattle.std.proofs.lemmas.Option.{none-some, same_Some}
+use Rattle.common_lists.proofs.ListLaws.{get_before, map_length, get_map, take_before, get_within}
 use Rattle.plan_rule.specs.declared.literal.Literal.{Literal}
 use Rattle.plan_rule.specs.Choices.{Choices}
 use Rattle.plan_rule.specs.Boxes.{Covers, with_literal, exact}
@@ -13,19 +13,10 @@ use Rattle.refutation_log.specs.declared.record.Record.TheVariants.{Branch, Fit,
 use Rattle.refutation_log.specs.Steps.{result_of, IsCited, IsStep, IsStepAt}
 use Rattle.refutation_log.specs.Logs.{raised, appended, AreSteps}
 
-pub map_length : {X Y : Type 0} (f : X → Y) (xs : List X) → length (map f xs) ≡ length xs
-map_length f [] = refl
-map_length f (x ∷ xs) = ap suc (map_length f xs)
-
-same_result : (c : Choices) (n : ℕ) (r : Record) → result_of c (raised n r) ≡ result_of c r
+pub same_result : (c : Choices) (n : ℕ) (r : Record) → result_of c (raised n r) ≡ result_of c r
 same_result c n (Branch b lo hi side cites) = refl
 same_result c n (Fit side) = refl
 same_result c n (Energy from to side) = refl
-
-get_map : {X Y : Type 0} (f : X → Y) (xs : List X) (k : ℕ) (x : X) → slice_get xs k ≡ Some x → slice_get (map f xs) k ≡ Some (f x)
-get_map f [] k x e = absurd (none-some x e)
-get_map f (y ∷ xs) zero x e = ap (λ y. Some (f y)) (same_Some y x e)
-get_map f (y ∷ xs) (suc k) x e = get_map f xs k x e
 
 get_from : {X : Type 0} (xs ys : List X) (k n : ℕ) (x : X) → n ≡ length xs + k → slice_get ys k ≡ Some x → slice_get (xs ++ ys) n ≡ Some x
 get_from [] ys k n x e at = let same : k ≡ n = omega arith in subst (λ i. slice_get ys i ≡ Some x) same at
@@ -35,11 +26,6 @@ get_from (y ∷ xs) ys k (suc n) x e at = get_from xs ys k n x (omega arith) at
 pub get_after : {X : Type 0} (xs ys : List X) (k : ℕ) (x : X) → slice_get ys k ≡ Some x → slice_get (xs ++ ys) (length xs + k) ≡ Some x
 get_after xs ys k x at = get_from xs ys k (length xs + k) x refl at
 
-pub get_before : {X : Type 0} (xs ys : List X) (k : ℕ) (x : X) → slice_get xs k ≡ Some x → slice_get (xs ++ ys) k ≡ Some x
-get_before [] ys k x e = absurd (none-some x e)
-get_before (y ∷ xs) ys zero x e = e
-get_before (y ∷ xs) ys (suc k) x e = get_before xs ys k x e
-
 take_from : {X : Type 0} (xs ys : List X) (i n : ℕ) → n ≡ length xs + i → take n (xs ++ ys) ≡ xs ++ take i ys
 take_from [] ys i n e = let same : n ≡ i = omega arith in ap (λ i. take i ys) same
 take_from (x ∷ xs) ys i zero e = absurd (omega arith)
@@ -47,11 +33,6 @@ take_from (x ∷ xs) ys i (suc n) e = ap (λ l. x ∷ l) (take_from xs ys i n (o
 
 take_after : {X : Type 0} (xs ys : List X) (i : ℕ) → take (length xs + i) (xs ++ ys) ≡ xs ++ take i ys
 take_after xs ys i = take_from xs ys i (length xs + i) refl
-
-take_before : {X : Type 0} (xs ys : List X) (i : ℕ) → i ≤ length xs → take i (xs ++ ys) ≡ take i xs
-take_before xs ys zero l = refl
-take_before [] ys (suc i) l = absurd (omega arith)
-take_before (x ∷ xs) ys (suc i) l = ap (λ l. x ∷ l) (take_before xs ys i (omega arith))
 
 take_map : {X Y : Type 0} (f : X → Y) (xs : List X) (i : ℕ) → take i (map f xs) ≡ map f (take i xs)
 take_map f xs zero = refl
@@ -112,15 +93,10 @@ later_step c t log other i (r, at, step) = (
       (step_after c t log (take i other) r step),
 )
 
-pub within : {X : Type 0} (xs : List X) (k : ℕ) (x : X) → slice_get xs k ≡ Some x → k < length xs
-within [] k x e = absurd (none-some x e)
-within (y ∷ xs) zero x e = omega arith
-within (y ∷ xs) (suc k) x e = let r = within xs k x e in omega arith
-
 -- a step of the first log is one of the whole, whatever follows
 pub earlier_step : (c : Choices) (t : Option (List ℕ)) (log more : List Record) (i : ℕ) → IsStepAt c t log i → IsStepAt c t (log ++ more) i
 earlier_step c t log more i (r, at, step) =
-    (r, get_before log more i r at, subst (λ earlier. IsStep c t earlier r) (sym (take_before log more i (let w = within log i r at in omega arith))) step)
+    (r, get_before log more i r at, subst (λ earlier. IsStep c t earlier r) (sym (take_before log more i (let w = get_within log i r at in omega arith))) step)
 
 -- both logs' steps are steps of the whole
 pub appended_steps : (c : Choices) (t : Option (List ℕ)) (log other : List Record) → AreSteps c t log → AreSteps c t other → AreSteps c t (appended log other)

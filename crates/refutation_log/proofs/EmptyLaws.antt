@@ -1,18 +1,14 @@
 -- Which records refute every plan.
-use Rattle.std.proofs.Common.{◌≡◌, ℕ, ◌==◌, List, [], ◌∷◌, ◌++◌, length, Bool, true, false, true≢false, refl, sym, ap, ap₂, ◌∙◌, subst, arith}
+use Rattle.std.proofs.Common.{◌≡◌, ℕ, ◌==◌, List, [], ◌∷◌, ◌++◌, length, Bool, true, false, refl, sym, ap, ap₂, ◌∙◌, subst, arith}
 use Rattle.std.specs.Prelude.{◌&&◌, if◌then◌else◌, ◌↔◌}
 use Rattle.std.proofs.lemmas.Bool.{eq-eqb, eqb-true}
+use Rattle.common_lists.proofs.ListLaws.{both_true}
 use Rattle.plan_rule.specs.Boxes.{with_literal}
 use Rattle.plan_rule.specs.Choices.{Choices, count}
 use Rattle.plan_rule.specs.declared.literal.Literal.{Literal}
 use Rattle.refutation_log.specs.declared.record.Record.{Record}
 use Rattle.refutation_log.specs.declared.record.Record.TheVariants.{Branch}
 use Rattle.refutation_log.specs.Steps.{result_of}
-
-both_true : (a b : Bool) → (a && b) ≡ true → (a ≡ true) × (b ≡ true)
-both_true true true e = (refl, refl)
-both_true true false e = absurd (true≢false (sym e))
-both_true false b e = absurd (true≢false (sym e))
 
 -- when the result of a branch is the empty box
 pub branch_empty : (c : Choices) (b lo hi : ℕ) (side : List Literal) (cites : List ℕ) → (side ≡ []) × (lo ≡ 0) × (hi ≡ count c b) → result_of c (Branch b lo hi side cites) ≡ []

@@ -1,8 +1,9 @@
 -- Shapes at places: an edge that separates them sets them apart, and shapes that no edge separates have a spot in common.
-use Rattle.std.proofs.Common.{◌≡◌, refl, sym, ap, ◌∙◌, subst, arith, ◌<◌, ◌≤◌, List, [], ◌∷◌, length, map, inl, inr, Bool, true, false}
+use Rattle.std.proofs.Common.{◌≡◌, refl, sym, ap, ◌∙◌, subst, arith, ◌<◌, ◌≤◌, List, [], ◌∷◌, length, map, inl, inr, Bool, true}
 use Rattle.std.specs.Prelude.{◌&&◌, IsTrue, int_lt}
 use Rattle.std.specs.List.{All, Any, list_all}
 use Rattle.std.proofs.lemmas.Int.{ints}
+use Rattle.common_lists.proofs.ListLaws.{both_true}
 use Rattle.shape_exact.specs.declared.point.Point.{Point}
 use Rattle.shape_exact.specs.Shapes.{Spot, IsShape, AreApart, edges, cross, side_of, is_inside}
 use Rattle.shape_exact.specs.Cells.{moved_spot}
@@ -38,10 +39,6 @@ above_from a h = omega (arith, ints)
 
 pub above_to : (a : ℤ) → pos 0 <ℤ a → int_lt (pos 0) a ≡ true
 above_to a h = grind (arith, ints)
-
-pub both_true : (a b : Bool) → (a && b) ≡ true → (a ≡ true) × (b ≡ true)
-both_true true b h = (refl, h)
-both_true false b h = absurd (let e : false ≡ true = h in cc)
 
 every_true : {A : Type 0} (p : A → Bool) (xs : List A) → list_all p xs ≡ true → Every (λ x. p x ≡ true) xs
 every_true p [] h = tt

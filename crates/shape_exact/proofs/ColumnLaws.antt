@@ -4,6 +4,7 @@ use Rattle.std.specs.Prelude.{◌&&◌, int_lt, if◌then◌else◌, List}
 use Rattle.std.specs.Int.RustNames.{unsigned_abs}
 use Rattle.std.proofs.lemmas.Int.{ints, unsigned_abs-mul}
 use Rattle.std.proofs.Math.Nat.{mul-le-mul}
+use Rattle.common_lists.proofs.ListLaws.{both_true}
 use Rattle.shape_exact.specs.declared.point.Point.{Point}
 use Rattle.shape_exact.specs.declared.cells.Interval.{Interval}
 use Rattle.common_lists.specs.Each.{sum_below}
@@ -11,7 +12,7 @@ use Rattle.shape_exact.specs.Shapes.{side_of, is_inside, origin, centre, cells, 
 use Rattle.shape_exact.specs.Cells.{Holds, centre_of}
 use Rattle.shape_exact.proofs.RingLaws.{ring, linear}
 use Rattle.common_lists.proofs.EachLaws.{sum-add_range, sum_below-const}
-use Rattle.shape_exact.proofs.ApartLaws.{above_from, above_to, both_true}
+use Rattle.shape_exact.proofs.ApartLaws.{above_from, above_to}
 use lib.IntN.{ℤ, pos, negsuc, ◌+ℤ◌, ◌-ℤ◌, ◌*ℤ◌}
 use lib.Signed.{◌<ℤ◌, ◌≤ℤ◌}
 

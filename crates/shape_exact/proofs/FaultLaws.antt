@@ -1,7 +1,6 @@
 -- The faults of points in their order, and what points without a fault keep.
-use Rattle.std.proofs.Common.{◌≡◌, ℕ, zero, suc, ◌<◌, ◌≤◌, List, length, refl, sym, ◌∙◌, subst, arith, inl, inr, true, false, Bool, Option, Some, None, Ok, Err}
+use Rattle.std.proofs.Common.{◌≡◌, ℕ, zero, suc, ◌<◌, ◌≤◌, List, length, refl, sym, ◌∙◌, subst, arith, inl, inr, true, false, Bool, Some, None, Ok, Err}
 use Rattle.std.specs.Prelude.{ℤ, pos, negsuc, ◌≤ℤ◌, ◌<ℤ◌, nat_lt, ◌&&◌, if◌then◌else◌}
-use Rattle.std.specs.Option.{option_map}
 use Rattle.std.proofs.lemmas.Bool.{cases_lt, false≢true}
 use Rattle.std.proofs.lemmas.Bool.Decides.{nat_tests}
 use Rattle.std.proofs.lemmas.Int.{ints}
@@ -9,6 +8,7 @@ use Rattle.std.proofs.lemmas.Option.{none-some, same_Some}
 use Rattle.std.proofs.lemmas.Cmp.{int_eq_equiv}
 use Rattle.std.specs.List.{All}
 use Rattle.std.proofs.lemmas.List.Elements.{All-from_get_or}
+use Rattle.common_lists.proofs.ListLaws.{map_none}
 use Rattle.shape_exact.specs.declared.point.Point.{Point}
 use Rattle.shape_exact.specs.declared.shape.ShapeFault.TheVariants.{TooFew, TooMany, Range, Equal, NotConvex, Flat}
 use Rattle.shape_exact.specs.Shapes.{IsShape, shifted, origin}
@@ -79,16 +79,12 @@ nothing : {A : Type 0} (b : Bool) (x : A) → where_so b x ≡ None → b ≡ fa
 nothing true x h = absurd (none-some x (sym h))
 nothing false x h = refl
 
-no_map : {A B : Type 0} (f : A → B) (o : Option A) → option_map f o ≡ None → o ≡ None
-no_map f None h = refl
-no_map f (Some x) h = absurd (none-some (f x) (sym h))
-
 same_self : (p : Point) → is_same p p ≡ true
 same_self p = rw (int_eq_equiv.refl p.x, int_eq_equiv.refl p.y) refl
 
 unlike : (vs : List Point) → first_equal vs ≡ None → (i j : ℕ) → i < j → j < length vs → vertex vs i ≡ vertex vs j → ⊥
 unlike vs e i j l m same =
-    let row = no_map (λ k. (i, k)) (first_equal_to vs i) (none_at (length vs) (pair_at vs) e i (omega arith)) in
+    let row = map_none (λ k. (i, k)) (first_equal_to vs i) (none_at (length vs) (pair_at vs) e i (omega arith)) in
     let yes : nat_lt i j ≡ true = grind (arith, nat_tests) in
     let no = nothing (nat_lt i j && is_same (vertex vs i) (vertex vs j)) j (none_at (length vs) (equal_at vs i) row j m) in
     let apart : is_same (vertex vs i) (vertex vs j) ≡ false = subst (λ b. (b && is_same (vertex vs i) (vertex vs j)) ≡ false) yes no in
@@ -107,7 +103,7 @@ once vs e i j l m same = elim (cases_lt i j) [
 
 no_other : (vs : List Point) (left : Bool) → first_other left vs ≡ None → (e v : ℕ) → e < length vs → v < length vs → is_other left (cross_at vs e v) ≡ false
 no_other vs left h e v l m =
-    let row = no_map (λ k. (e, k)) (other_of_edge left vs e) (none_at (length vs) (sides_at left vs) h e l) in
+    let row = map_none (λ k. (e, k)) (other_of_edge left vs e) (none_at (length vs) (sides_at left vs) h e l) in
     nothing (is_other left (cross_at vs e v)) v (none_at (length vs) (other_at left vs e) row v m)
 
 inner : (vs : List Point) (left : Bool) → inner_sign vs ≡ Some left → (e : ℕ) × (v : ℕ) × (e < length vs) × (v < length vs) × (sign (cross_at vs e v) ≡ Some left)

@@ -2,14 +2,15 @@
 use Rattle.std.proofs.Common.{◌≡◌, ℕ, zero, suc, ◌≤◌, List, [], ◌∷◌, get_or, map, refl, sym, ap, ◌∙◌, subst, arith, inl, inr}
 use Rattle.std.specs.Prelude.{unsigned_abs, ℤ, pos, ◌≢◌, ◌-ℤ◌, ◌*ℤ◌, ◌≤ℤ◌, ◌<ℤ◌}
 use Rattle.std.specs.List.{All, Any, AllPairs}
-use Rattle.std.proofs.lemmas.Int.{ints, fold-int_min_bounds, fold-int_max_reached}
+use Rattle.std.proofs.lemmas.Int.{ints, fold-int_max_reached}
 use Rattle.std.proofs.lemmas.List.{length-map, get_or-map}
-use Rattle.std.proofs.lemmas.List.Elements.{All-nil, All-cons, All-head, All-tail, All-map, All-weaker, All-contains}
+use Rattle.std.proofs.lemmas.List.Elements.{All-head, All-tail, All-map, All-weaker, All-contains}
 use Rattle.shape_exact.specs.declared.point.Point.{Point}
 use Rattle.shape_exact.specs.Shapes.{reach_x, cells, IsShape, edges, cross, least, greatest, turned, reach_y}
 use Rattle.shape_exact.specs.Separation.{IsWithin}
 use Rattle.shape_exact.proofs.RingLaws.{ring, linear}
 use Rattle.shape_exact.proofs.TurnLaws.{turns_keep, rot-reach_x, rot-reach_y, IsNormal, rot, rot_both, edges-rot, high_y, turn_is, rot-normal}
+use Rattle.shape_exact.proofs.CornerLaws.{above_least}
 
 -- ---- lists
 pub Any-map : {X Y : Type 0} (P : Y → Type 0) (f : X → Y) (xs : List X) → Any (λ x. P (f x)) xs → Any P (map f xs)
@@ -27,17 +28,6 @@ distinct-map f xs one o h i j d l m =
     λ same. h i j o l (omega arith) (one (get_or xs i o) (get_or xs j o) (sym e ∙ same ∙ g))
 
 -- ---- the least and the greatest
--- the least is at most each
-pub least_below : (f : Point → ℤ) (vs : List Point) → All (λ v. least f vs ≤ℤ f v) vs
-least_below f [] = All-nil (λ v. pos 0 ≤ℤ f v)
-least_below f (v ∷ vs) =
-    let b = fold-int_min_bounds (f v) (map f vs) (least f (v ∷ vs)) refl in
-    All-cons (λ u. least f (v ∷ vs) ≤ℤ f u) v vs b.0 (back f (least f (v ∷ vs)) vs b.1)
-  where
-    back : (f : Point → ℤ) (k : ℤ) (us : List Point) → All (λ x. k ≤ℤ x) (map f us) → All (λ u. k ≤ℤ f u) us
-    back f k [] h = All-nil (λ u. k ≤ℤ f u)
-    back f k (u ∷ us) h = All-cons (λ u. k ≤ℤ f u) u us (All-head (λ x. k ≤ℤ x) (f u) (map f us) h) (back f k us (All-tail (λ x. k ≤ℤ x) (f u) (map f us) h))
-
 -- the greatest is at most what each is
 pub greatest_at_most : (f : Point → ℤ) (k : ℤ) (vs : List Point) → pos 0 ≤ℤ k → All (λ v. f v ≤ℤ k) vs → greatest f vs ≤ℤ k
 greatest_at_most f k [] z h = z
@@ -49,10 +39,10 @@ greatest_at_most f k (v ∷ vs) z h =
 
 -- no vertex of a footprint has a coordinate below 0
 pub not_left : (vs : List Point) → IsShape vs → All (λ v. pos 0 ≤ℤ v.x) vs
-not_left vs s = subst (λ (k : ℤ). All (λ v. k ≤ℤ v.x) vs) s.low_x (least_below (λ p. p.x) vs)
+not_left vs s = subst (λ (k : ℤ). All (λ v. k ≤ℤ v.x) vs) s.low_x (above_least (λ p. p.x) vs)
 
 pub not_under : (vs : List Point) → IsShape vs → All (λ v. pos 0 ≤ℤ v.y) vs
-not_under vs s = subst (λ (k : ℤ). All (λ v. k ≤ℤ v.y) vs) s.low_y (least_below (λ p. p.y) vs)
+not_under vs s = subst (λ (k : ℤ). All (λ v. k ≤ℤ v.y) vs) s.low_y (above_least (λ p. p.y) vs)
 
 -- its coordinates are from 0 to 2000
 pub within : (vs : List Point) → IsShape vs → All (IsWithin 2000) vs

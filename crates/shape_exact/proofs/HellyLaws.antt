@@ -1,7 +1,7 @@
 -- Edges of which each three have a point on their inner sides have one point on all their inner sides.
 use Rattle.std.proofs.Common.{◌≡◌, sym, ap, ◌∙◌, subst, arith, List, [], ◌∷◌}
+use Rattle.common_lists.proofs.NumberLaws.{square_weak}
 use Rattle.shape_exact.proofs.RingLaws.{ring, linear, mul-one, one-mul, mul-zero, zero-mul, not_negative_mul, positive_mul}
-use Rattle.std.proofs.lemmas.Int.{ints}
 use lib.IntN.{ℤ, pos, negsuc, ◌+ℤ◌, ◌-ℤ◌, ◌*ℤ◌, neg_ℤ}
 use lib.Signed.{◌<ℤ◌, ◌≤ℤ◌}
 use Rattle.shape_exact.specs.Plane.{Edge, Mark, side, Every, mark_of}
@@ -54,10 +54,6 @@ side-from f = at (f.to.x -ℤ f.from.x) (f.to.y -ℤ f.from.y) f.from.x f.from.y
   where
     at : (dx dy ax ay : ℤ) → dx *ℤ (ay -ℤ pos 1 *ℤ ay) -ℤ dy *ℤ (ax -ℤ pos 1 *ℤ ax) ≡ pos 0
     at dx dy ax ay = simp ring (omega (arith, linear))
-
-square_weak : (a : ℤ) → pos 0 ≤ℤ (a *ℤ a)
-square_weak (pos n) = omega (arith, ints)
-square_weak (negsuc n) = omega (arith, ints)
 
 square_of_neg : (a : ℤ) → neg_ℤ a *ℤ neg_ℤ a ≡ a *ℤ a
 square_of_neg a = simp ring

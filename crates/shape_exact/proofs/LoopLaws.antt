@@ -6,6 +6,7 @@ use lib.Signed.{◌<ℤ◌, ◌≤ℤ◌}
 use Rattle.shape_exact.specs.declared.point.Point.{Point}
 use Rattle.shape_exact.specs.Plane.{Edge, Mark, side, links, Every, Inside, mark_of}
 use Rattle.shape_exact.proofs.LinearLaws.{plucker}
+use Rattle.shape_exact.proofs.LineLaws.{every_then}
 
 -- n times twice the area of z, a and b, in whole numbers
 abbrev turn : Mark → Point → Point → ℤ
@@ -48,10 +49,6 @@ loop_goes e z first p (q ∷ qs) bf bp t bs ts =
     let more = positive_cancel (beyond e z p) (turn z first q) bp (subst (λ (w : ℤ). pos 0 <ℤ w) (sym step) both) in
     loop_goes e z first q qs bf bs.0 more bs.1 ts.1
 
-every_weaker : {A : Type 0} (P Q : A → Type 0) (f : (a : A) → P a → Q a) (xs : List A) → Every P xs → Every Q xs
-every_weaker P Q f [] h = tt
-every_weaker P Q f (x ∷ xs) h = (f x h.0, every_weaker P Q f xs h.1)
-
 -- a vertex that is not on the inner side of e is beyond z
 outside_beyond : (e : Edge) (z : Mark) (v : Point) → pos 0 <ℤ z.n → pos 0 <ℤ side e z → side e (mark_of v) ≤ℤ pos 0 → pos 0 <ℤ beyond e z v
 outside_beyond e z v n s o = subst (λ (w : ℤ). pos 0 <ℤ w) (sym (beyond-side e z v)) (far z.n (side e z) (side e (mark_of v)) n s o)
@@ -71,6 +68,6 @@ separated e z p [] i s o =
     none : (a : ℤ) → a ≡ pos 0 → pos 0 <ℤ a → ⊥
     none a e h = omega (arith, linear)
 separated e z p (q ∷ qs) i s o =
-    let b = every_weaker (λ v. side e (mark_of v) ≤ℤ pos 0) (λ v. pos 0 <ℤ beyond e z v) (λ v. outside_beyond e z v i.0 s) (p ∷ q ∷ qs) o in
-    let t = every_weaker (λ d. pos 0 <ℤ side d z) (λ d. pos 0 <ℤ turn z d.from d.to) (λ d h. subst (λ (w : ℤ). pos 0 <ℤ w) (turn-side z d.from d.to) (positive_mul _ _ i.0 h)) (links p p (q ∷ qs)) i.1 in
+    let b = every_then (λ v. side e (mark_of v) ≤ℤ pos 0) (λ v. pos 0 <ℤ beyond e z v) (λ v. outside_beyond e z v i.0 s) (p ∷ q ∷ qs) o in
+    let t = every_then (λ d. pos 0 <ℤ side d z) (λ d. pos 0 <ℤ turn z d.from d.to) (λ d h. subst (λ (w : ℤ). pos 0 <ℤ w) (turn-side z d.from d.to) (positive_mul _ _ i.0 h)) (links p p (q ∷ qs)) i.1 in
     loop_goes e z p q qs b.0 b.1.0 t.0 b.1.1 t.1

@@ -122,7 +122,7 @@ trio ps qs y z iy iz e f g (inr a) (inl b) (inr c) = let w = b.1 in (w.0, w.1.0,
 trio ps qs y z iy iz e f g (inr a) (inr b) (inl c) = let w = c.1 in (w.0, w.1.0, a.0 w.0 w.1, b.0 w.0 w.1, w.2)
 trio ps qs y z iy iz e f g (inr a) (inr b) (inr c) = (z, iz.0, a.0 z iz, b.0 z iz, c.0 z iz)
 
-every_append : {A : Type 0} (P : A → Type 0) (xs ys : List A) → Every P xs → Every P ys → Every P (xs ++ ys)
+pub every_append : {A : Type 0} (P : A → Type 0) (xs ys : List A) → Every P xs → Every P ys → Every P (xs ++ ys)
 every_append P [] ys h i = i
 every_append P (x ∷ xs) ys h i = (h.0, every_append P xs ys h.1 i)
 

@@ -1,8 +1,6 @@
 -- A shape at a place within a rectangle has there the cells that it has where it lies.
 use Rattle.std.proofs.Common.{◌≡◌, refl, ap, ◌∙◌, subst, arith, ℕ, ◌+◌, ◌-◌, ◌*◌, ◌<◌, ◌≤◌, true, List, [], ◌∷◌, map}
-use Rattle.std.specs.List.{All}
-use Rattle.std.proofs.lemmas.Int.{ints, fold-int_max_bounds}
-use Rattle.std.proofs.lemmas.List.Elements.{All-nil, All-cons, All-head, All-tail}
+use Rattle.std.proofs.lemmas.Int.{ints}
 use Rattle.shape_exact.specs.declared.point.Point.{Point}
 use Rattle.common_lists.specs.Each.{sum_below}
 use Rattle.shape_exact.specs.Shapes.{IsShape, is_inside, origin, centre, cells, greatest, reach_x, reach_y}
@@ -20,19 +18,9 @@ use Rattle.shape_exact.proofs.WallLaws.{not_right}
 use Rattle.shape_exact.proofs.BridgeLaws.{every_from_All}
 use Rattle.shape_exact.proofs.ApartLaws.{mark, inside_from}
 use Rattle.shape_exact.proofs.ColumnLaws.{one_if, none_when}
+use Rattle.shape_exact.proofs.CornerLaws.{below_greatest}
 use lib.IntN.{ℤ, pos, ◌+ℤ◌, ◌*ℤ◌, neg_ℤ}
 use lib.Signed.{◌≤ℤ◌}
-
--- each is at most the greatest
-greatest_above : (f : Point → ℤ) (vs : List Point) → All (λ v. f v ≤ℤ greatest f vs) vs
-greatest_above f [] = All-nil (λ v. f v ≤ℤ pos 0)
-greatest_above f (v ∷ vs) =
-    let b = fold-int_max_bounds (f v) (map f vs) (greatest f (v ∷ vs)) refl in
-    All-cons (λ u. f u ≤ℤ greatest f (v ∷ vs)) v vs b.0 (back f (greatest f (v ∷ vs)) vs b.1)
-  where
-    back : (f : Point → ℤ) (k : ℤ) (us : List Point) → All (λ x. x ≤ℤ k) (map f us) → All (λ u. f u ≤ℤ k) us
-    back f k [] h = All-nil (λ u. f u ≤ℤ k)
-    back f k (u ∷ us) h = All-cons (λ u. f u ≤ℤ k) u us (All-head (λ x. x ≤ℤ k) (f u) (map f us) h) (back f k us (All-tail (λ x. x ≤ℤ k) (f u) (map f us) h))
 
 -- ---- a spot inside lies between the sides of the box, seen from each of four directions
 wall_right : (g : Point → Point) (k : ℤ) (z : Mark) (v : Point) (vs : List Point) → Inside z (map g (v ∷ vs)) → Every (λ u. (g u).x ≤ℤ k) (v ∷ vs) → z.x ≤ℤ (z.n *ℤ k)
@@ -74,14 +62,14 @@ in_box (v ∷ vs) x y i j s h =
     let i3 = turned_inside (twice at) (quarter_mark (quarter_mark z)) us i2 in
     let right = wall_right (shift at) (pos (x + reach_x us)) z v vs i0
     (every_then (λ u. u.x ≤ℤ greatest (λ p. p.x) us) (λ u. (shift at u).x ≤ℤ pos (x + reach_x us)) (λ u l. far u.x x (reach_x us) (subst (λ (k : ℤ). u.x ≤ℤ k) (high_x us (normal us s)) l)) us
-    (every_from_All (λ u. u.x ≤ℤ greatest (λ p. p.x) us) us (greatest_above (λ p. p.x) us))) in
+    (every_from_All (λ u. u.x ≤ℤ greatest (λ p. p.x) us) us (below_greatest (λ p. p.x) us))) in
     let low = wall_right (once at) (neg_ℤ (pos y)) (quarter_mark z) v vs i1
     (every_then (λ u. pos 0 ≤ℤ u.y) (λ u. (once at u).x ≤ℤ neg_ℤ (pos y)) (λ u l. near u.y y l) us (every_from_All (λ u. pos 0 ≤ℤ u.y) us (not_under us s))) in
     let left = wall_right (twice at) (neg_ℤ (pos x)) (quarter_mark (quarter_mark z)) v vs i2
     (every_then (λ u. pos 0 ≤ℤ u.x) (λ u. (twice at u).x ≤ℤ neg_ℤ (pos x)) (λ u l. near u.x x l) us (every_from_All (λ u. pos 0 ≤ℤ u.x) us (not_left us s))) in
     let high = wall_right (thrice at) (pos (y + reach_y us)) (quarter_mark (quarter_mark (quarter_mark z))) v vs i3
     (every_then (λ u. u.y ≤ℤ greatest (λ p. p.y) us) (λ u. (thrice at u).x ≤ℤ pos (y + reach_y us)) (λ u l. far_back u.y y (reach_y us) (subst (λ (k : ℤ). u.y ≤ℤ k) (high_y us (normal us s)) l)) us
-    (every_from_All (λ u. u.y ≤ℤ greatest (λ p. p.y) us) us (greatest_above (λ p. p.y) us))) in
+    (every_from_All (λ u. u.y ≤ℤ greatest (λ p. p.y) us) us (below_greatest (λ p. p.y) us))) in
     record { left = from_left i x left; right = from_right i (x + reach_x us) right; low = from_left j y low; high = from_high j (y + reach_y us) high }
   where
     far : (a : ℤ) (x r : ℕ) → a ≤ℤ pos r → (a +ℤ pos x) ≤ℤ pos (x + r)

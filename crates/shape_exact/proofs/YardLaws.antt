@@ -4,8 +4,9 @@ use Rattle.std.specs.List.{list_any, AllPairs}
 use Rattle.std.specs.Str.{bytes_eq}
 use Rattle.std.proofs.lemmas.List.Quantifiers.{all_pairs_push}
 use Rattle.std.specs.Prelude.{slice_get}
-use Rattle.std.proofs.lemmas.Option.{none-some, same_Some, slice_get_within, get_or_from_slice_get}
+use Rattle.std.proofs.lemmas.Option.{same_Some, slice_get_within, get_or_from_slice_get}
 use Rattle.std.proofs.lemmas.List.Elements.{All-contains, All-push, All-weaker}
+use Rattle.common_lists.proofs.ListLaws.{get_more}
 use Rattle.shape_exact.specs.declared.plate.Plate.{Plate}
 use Rattle.shape_exact.specs.declared.block.Block.{Block}
 use Rattle.shape_exact.specs.declared.fixed.Fixed.{Fixed}
@@ -31,12 +32,6 @@ distinct_names_more {A} name xs x a new = subst AreDistinct (sym (map_more xs)) 
     map_more : (ys : List A) → map name (ys ++ x ∷ []) ≡ map name ys ++ name x ∷ []
     map_more [] = refl
     map_more (y ∷ ys) = ap (λ ns. name y ∷ ns) (map_more ys)
-
--- what stands in a list stands there with one element more
-get_more : {A : Type 0} (xs : List A) (y : A) (k : ℕ) (x : A) → slice_get xs k ≡ Some x → slice_get (xs ++ y ∷ []) k ≡ Some x
-get_more [] y k x e = absurd (none-some x e)
-get_more (z ∷ xs) y zero x e = e
-get_more (z ∷ xs) y (suc k) x e = get_more xs y k x e
 
 -- a piece stands inside its plate with one plate more
 piece_more : (n : ℕ) (plates : List Plate) (p : Plate) (f : Fixed) → IsPiece n plates f → IsPiece n (plates ++ p ∷ []) f

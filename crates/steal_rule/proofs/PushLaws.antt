@@ -8,13 +8,14 @@ use mathlib.Core.Logic.{dite}
 use native.Mathlib.Decide.{ℕ_discrete}
 use lib.ListN.{get_elem?}
 use Rattle.atomic_table.specs.Table.{keeps, Allows}
+use Rattle.common_lists.proofs.ListLaws.{get_last, get_within, get_more, sum_set}
 use Rattle.plan_rule.specs.declared.job.Job.{Job}
 use Rattle.plan_rule.specs.Jobs.{IsJob, word}
 use Rattle.steal_rule.specs.declared.rule.View.{View}
 use Rattle.steal_rule.specs.Views.{job_of, opening, filled}
 use Rattle.steal_rule.specs.Rule.{IsEmptied, IsGone, Fits, times_emptied, is_full, weight_of, weight_taken, IsDeque, Holds}
 use Rattle.steal_rule.specs.Plays.{Mine, Pushed}
-use Rattle.steal_rule.proofs.ListLaws.{sum_set, has_index, get_front, get_last, fits_apart, still_owner}
+use Rattle.steal_rule.proofs.ListLaws.{fits_apart, still_owner}
 use Rattle.steal_rule.proofs.JobWordLaws.{job_of_next}
 use Rattle.steal_rule.proofs.SwapLaws.{full_is}
 
@@ -52,7 +53,7 @@ opens = record {
 
 longer_emptied : (cells : List ℕ) (pushed : List Job) (i n : ℕ) (job : Job) → i ≡ length pushed → (es : List (ℕ × Job)) → All (IsEmptied cells pushed) es → All (IsEmptied (set cells i n) (pushed ++ job ∷ [])) es
 longer_emptied cells pushed i n job end' es all = All-weaker (IsEmptied cells pushed) (IsEmptied (set cells i n) (pushed ++ job ∷ []))
-    (λ e p. (get_front pushed job e.0 e.1 p.0, get_or-set_other cells i e.0 n 0 (λ z. let l = has_index pushed e.0 e.1 p.0 in omega arith) ∙ p.1)) es all
+    (λ e p. (get_more pushed job e.0 e.1 p.0, get_or-set_other cells i e.0 n 0 (λ z. let l = get_within pushed e.0 e.1 p.0 in omega arith) ∙ p.1)) es all
 
 longer_gone : (cells : List ℕ) (pushed : List Job) (i n : ℕ) (job : Job) → i ≡ length pushed → (ks : List ℕ) → All (IsGone cells pushed) ks → All (IsGone (set cells i n) (pushed ++ job ∷ [])) ks
 longer_gone cells pushed i n job end' ks all = All-weaker (IsGone cells pushed) (IsGone (set cells i n) (pushed ++ job ∷ []))
@@ -74,7 +75,7 @@ pushes slots id me i job good live owns' at_end low s h _ at _ =
     let inside : i < length cells = subst (λ n. i < n) (sym h.size) low in
     let new : slice_index cells' i ≡ number = get_or-set_same cells i number 0 inside in
     let read : job_of (number - 1) ≡ job = job_of_next job good.length in
-    let was : slice_index cells i ≡ 0 = dite (ℕ_discrete (slice_index cells i) 0) (λ e. e) (λ n. let l = has_index h.pushed i (job_of (slice_index cells i - 1)) (h.full i n) in absurd (omega arith)) in
+    let was : slice_index cells i ≡ 0 = dite (ℕ_discrete (slice_index cells i) 0) (λ e. e) (λ n. let l = get_within h.pushed i (job_of (slice_index cells i - 1)) (h.full i n) in absurd (omega arith)) in
     let l = length-append h.pushed (job ∷ []) in (
       w,
       keeps,
@@ -88,7 +89,7 @@ pushes slots id me i job good live owns' at_end low s h _ at _ =
         jobs = All-push IsJob h.pushed job h.jobs good;
         full = λ k some'. dite (ℕ_discrete k i)
             (λ same. ap (slice_get pushed') (same ∙ end') ∙ get_last h.pushed job ∙ ap (λ (x : Job). Some x) (sym read) ∙ ap (λ (n : ℕ). Some (job_of (n - 1))) (sym (ap (slice_index cells') same ∙ new)))
-            (λ apart. let e = get_or-set_other cells i k number 0 apart in get_front h.pushed job k (job_of (slice_index cells' k - 1)) (h.full k (λ z. some' (e ∙ z)) ∙ ap (λ n. Some (job_of (n - 1))) (sym e)));
+            (λ apart. let e = get_or-set_other cells i k number 0 apart in get_more h.pushed job k (job_of (slice_index cells' k - 1)) (h.full k (λ z. some' (e ∙ z)) ∙ ap (λ n. Some (job_of (n - 1))) (sym e)));
         fits = fits_apart (Fits cells' pushed' h.owner) s.views id w
             (λ j u apart e. let f = h.fits j u e in record {
               owner = λ b. absurd (apart ((f.owner b).0 ∙ sym own.0));

@@ -6,11 +6,12 @@ use mathlib.Core.Option.{some}
 use lib.ListN.{get_elem?}
 use Rattle.atomic_table.specs.Table.{Splits, Joins}
 use Rattle.atomic_table.proofs.Lists.{at_snoc, set_else}
+use Rattle.common_lists.proofs.ListLaws.{sum_set}
 use Rattle.plan_rule.specs.declared.job.Job.{Job}
 use Rattle.steal_rule.specs.declared.rule.View.{View}
 use Rattle.steal_rule.specs.Views.{without_parts, reach_of, gathered, spent}
 use Rattle.steal_rule.specs.Rule.{IsEmptied, IsGone, Fits, times_emptied, weight_taken, Holds}
-use Rattle.steal_rule.proofs.ListLaws.{sum_set, fits_apart, still_owner, owner_before, owner_apart}
+use Rattle.steal_rule.proofs.ListLaws.{fits_apart, still_owner, owner_before, owner_apart}
 use Rattle.steal_rule.proofs.SwapLaws.{is_at}
 
 -- a new reach takes n parts

@@ -10,13 +10,13 @@ use native.Mathlib.Decide.{ℕ_discrete}
 use lib.ListN.{get_elem?}
 use Rattle.atomic_table.specs.Table.{keeps, Allows}
 use Rattle.atomic_table.proofs.Lists.{at_index, set_again}
+use Rattle.common_lists.proofs.ListLaws.{sum_of_ones, there, get_within}
 use Rattle.plan_rule.specs.declared.job.Job.{Job}
 use Rattle.steal_rule.specs.declared.rule.View.{View}
 use Rattle.steal_rule.specs.Views.{job_of, passed}
 use Rattle.steal_rule.specs.Rule.{IsGone, Fits, weight_of, weight_taken, IsDeque, Holds}
 use Rattle.steal_rule.specs.Plays.{Mine, Settled}
 use Rattle.steal_rule.specs.Deques.{Reaching}
-use Rattle.steal_rule.proofs.ListLaws.{there, has_index, ones}
 use Rattle.steal_rule.proofs.SwapLaws.{finds_nothing}
 
 true_or_false : (b : Bool) → (b ≡ true) ⊎ (b ≡ false)
@@ -76,7 +76,7 @@ none_left cells views id v h at owns' gone k =
     let fit = h.fits id v at in
     let own = fit.owner owns' in
     dite (ℕ_discrete (slice_index cells k) 0) (λ e. e) (λ n.
-    let in' : k < length h.pushed = has_index h.pushed k (job_of (slice_index cells k - 1)) (h.full k n) in
+    let in' : k < length h.pushed = get_within h.pushed k (job_of (slice_index cells k - 1)) (h.full k n) in
     absurd (n (All-contains (IsGone cells h.pushed) v.gone k fit.gone (gone k (subst (λ (l : List Job). k < length l) (sym own.1) in'))).1))
 
 pub settles : (slots id : ℕ) (me : Mine) → me.0.live ≡ true → me.0.owns ≡ true → me.0.parts ≡ 16 → ((k : ℕ) → k < length me.0.pushed → Contains me.0.gone k) → Allows Holds slots id me 0 (λ _. 0) (λ _ n. Settled me n)
@@ -107,9 +107,9 @@ lengths [] = refl
 lengths (r ∷ rs) =
     let a = sum_by-cons (λ (r : Reaching). sum_by (λ (j : Job). 1) r.stolen) r rs in
     let b = sum_by-cons (λ (r : Reaching). length r.stolen) r rs in
-    let c = ones r.stolen in let d = lengths rs in omega arith
+    let c = sum_of_ones r.stolen in let d = lengths rs in omega arith
 
 -- how many jobs were stolen
 pub stolen_count : (pushed popped : List Job) (reaches : List Reaching) → ((h : Job → ℕ) → sum_by h pushed ≡ sum_by h popped + sum_by (λ (r : Reaching). sum_by h r.stolen) reaches)
     → length pushed ≡ length popped + sum_by (λ (r : Reaching). length r.stolen) reaches
-stolen_count pushed popped reaches taken = let a = taken (λ _. 1) in let b = ones pushed in let c = ones popped in let d = lengths reaches in omega arith
+stolen_count pushed popped reaches taken = let a = taken (λ _. 1) in let b = sum_of_ones pushed in let c = sum_of_ones popped in let d = lengths reaches in omega arith

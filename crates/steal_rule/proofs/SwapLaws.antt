@@ -9,13 +9,14 @@ use native.Mathlib.Decide.{ℕ_discrete}
 use lib.ListN.{get_elem?}
 use Rattle.atomic_table.specs.Table.{keeps, Allows}
 use Rattle.atomic_table.proofs.Lists.{at_index, set_again}
+use Rattle.common_lists.proofs.ListLaws.{sum_of_ones, there, get_within, sum_set}
 use Rattle.plan_rule.specs.declared.job.Job.{Job}
 use Rattle.plan_rule.specs.Jobs.{IsJob}
 use Rattle.steal_rule.specs.declared.rule.View.{View}
 use Rattle.steal_rule.specs.Views.{job_of, took, passed}
 use Rattle.steal_rule.specs.Rule.{IsEmptied, IsGone, Fits, times_emptied, is_full, weight_of, weight_taken, IsDeque, Holds}
 use Rattle.steal_rule.specs.Plays.{Mine, Swapped}
-use Rattle.steal_rule.proofs.ListLaws.{there, sum_set, still_empty, has_index, index_of, fits_set, ones, still_owner}
+use Rattle.steal_rule.proofs.ListLaws.{still_empty, index_of, fits_set, still_owner}
 
 -- the gone cells of one who found the cell i empty
 gone_more : (cells : List ℕ) (pushed : List Job) (i : ℕ) (v : View) → slice_index cells i ≡ 0 → (v.owns ≡ true → v.pushed ≡ pushed) → All (IsGone cells pushed) v.gone
@@ -106,7 +107,7 @@ takes_one cells views id i v h low at live some_job =
           let c : is_at k i ≡ 0 = miss k i n in
           let g : is_full (slice_index cells' k) ≡ is_full (slice_index cells k) = ap is_full (get_or-set_other cells i k 0 0 (λ z. n (sym z))) in omega arith);
       never = λ k far. let a = sum_set (times_emptied k) views id v w at in let b = sum_by_push (λ (x : ℕ × Job). is_at k x.0) v.emptied (i, job) in
-          let l = has_index h.pushed i job pushed in
+          let l = get_within h.pushed i job pushed in
           let c : is_at k i ≡ 0 = miss k i (λ z. omega arith) in
           let d = h.never k far in omega arith;
       parts = let s = sum_set (λ (u : View). u.parts) views id v w at in let p = h.parts in omega arith;
@@ -132,7 +133,7 @@ pub job_at : (cells : List ℕ) (views : List View) (i : ℕ) → IsDeque cells 
 job_at cells views i h some_job =
     let job = job_of (slice_index cells i - 1) in
     let e = h.full i some_job in
-    subst IsJob (index_of h.pushed i job job e) (h.jobs i job (has_index h.pushed i job e))
+    subst IsJob (index_of h.pushed i job job e) (h.jobs i job (get_within h.pushed i job e))
 
 -- no view takes more than 64 jobs
 few_more : (cells : List ℕ) (views : List View) (id i : ℕ) (v : View) → IsDeque cells views → i < 64 → get_elem? views id ≡ some v → slice_index cells i ≢ 0
@@ -144,8 +145,8 @@ few_more cells views id i v h low at some_job =
     let a = h.weighed one in
     let b = get_or-le-sum_by F views id v r.0 in
     let c : F (get_or views id v) ≡ F v = ap F r.1 in
-    let d = ones v.emptied in
-    let e = ones h.pushed in
+    let d = sum_of_ones v.emptied in
+    let e = sum_of_ones h.pushed in
     let f = h.room in
     let inside : i < length cells = subst (λ n. i < n) (sym h.size) low in
     let g = get_or-le-sum_by (weight_of one) cells i 0 inside in

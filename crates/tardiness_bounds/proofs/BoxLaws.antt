@@ -4,9 +4,9 @@ use Rattle.std.specs.Prelude.{All}
 use Rattle.std.proofs.lemmas.List.Elements.{All-push}
 use Rattle.std.proofs.lemmas.Option.{get_or_from_slice_get, slice_get_within}
 use Rattle.common_lists.proofs.EachLaws.{get-append_cases}
+use Rattle.common_lists.proofs.ListLaws.{only_element}
 use Rattle.plan_rule.specs.declared.literal.Literal.{Literal}
 use Rattle.plan_rule.specs.Boxes.{AreLiterals, IsAscending}
-use Rattle.tardiness_bounds.proofs.StackLaws.{only_one}
 
 -- the blocks of the literals come before a number
 abbrev pub ComeBefore : ℕ → List Literal → Type 0
@@ -28,7 +28,7 @@ literals_more box more l n h low after some pushed = subst AreLiterals (sym push
       ]
       | inr back_b ↦
           let (m, here, where_is) = back_b in
-          let (first, same) = only_one l b m here in
+          let (first, same) = only_element l b m here in
           elim (get-append_cases box (l ∷ []) i a at_a) [
             | inl front_a ↦
                 let k = slice_get_within box i a front_a in
@@ -36,7 +36,7 @@ literals_more box more l n h low after some pushed = subst AreLiterals (sym push
                 let f = ap (λ (l : Literal). l.block) same in
                 let before = low i a k in
                 omega arith
-            | inr back_a ↦ (let (p, there, where_a) = back_a in let (zero_p, same_a) = only_one l a p there in absurd (omega arith))
+            | inr back_a ↦ (let (p, there, where_a) = back_a in let (zero_p, same_a) = only_element l a p there in absurd (omega arith))
           ]
     ]
 

@@ -7,6 +7,7 @@ use Rattle.std.proofs.lemmas.List.{length-map, get_or-map}
 use Rattle.std.proofs.lemmas.List.Elements.{All-contains, All-map, Contains-get_or}
 use Rattle.std.proofs.lemmas.Nat.{div-mul-add, div_below, mod-mul-add}
 use Rattle.std.proofs.lemmas.Option.{same_Some, slice_get-get_or, slice_get_within}
+use Rattle.common_lists.proofs.ListLaws.{element_at}
 use Rattle.shape_exact.specs.Yards.{PlainYard, piece_at}
 use Rattle.shape_exact.specs.Shapes.{AreApart, turned}
 use Rattle.shape_exact.specs.declared.block.Block.{Block}
@@ -16,7 +17,6 @@ use Rattle.minkowski_obstacles.specs.Pairs.{Pair}
 use Rattle.lattice_free.specs.Clear.{AreClear, IsClear as IsClearOf}
 use Rattle.code_table.specs.declared.placement.Placement.{Placement}
 use Rattle.plan_rule.specs.Clashes.{MayClash, MayMeetPiece, place_of}
-use Rattle.plan_rule.proofs.ClashLaws.{element}
 use Rattle.tardiness_bounds.specs.declared.near.Neighbour.{Neighbour}
 use Rattle.tardiness_bounds.specs.declared.standing.Standing.{Standing}
 use Rattle.tardiness_bounds.specs.Footprints.{footprint_at, footprint_count, pair_at, piece_shape, shape_of, turned_count}
@@ -41,8 +41,8 @@ clash_by_places yard f b p first second true s may told = (
       (subst (λ g. AreApart first (place_of f.place) g (place_of p)) (s.second_is m.two m.two_is) (told.0 refl)))),
 )
 clash_by_places yard f b p first second false s may told =
-    let (one, one_is) = element yard.blocks f.block s.first_block in
-    let (two, two_is) = element yard.blocks b s.second_block in (
+    let (one, one_is) = element_at yard.blocks f.block s.first_block in
+    let (two, two_is) = element_at yard.blocks b s.second_block in (
       λ t. record {
         one = one;
         two = two;
@@ -78,8 +78,8 @@ clear_not_clash yard f b turn p t apart m =
 not_clash_clear : (yard : PlainYard) (f : Standing) (b turn : ℕ) (p : Placement) → IsStanding yard f → b < length yard.blocks → p.turn ≡ turn → MayClash f.place p
     → (ClashesAt yard f b p → ⊥) → AreApart (turned f.place.turn (shape_of yard f.block)) (place_of f.place) (turned turn (shape_of yard b)) (place_of p)
 not_clash_clear yard f b turn p s l t may free =
-    let (one, one_is) = element yard.blocks f.block s.block in
-    let (two, two_is) = element yard.blocks b l in
+    let (one, one_is) = element_at yard.blocks f.block s.block in
+    let (two, two_is) = element_at yard.blocks b l in
     subst (λ g. AreApart (turned f.place.turn g) (place_of f.place) (turned turn (shape_of yard b)) (place_of p)) (sym (shape_is yard f.block one one_is))
     (subst (λ g. AreApart (turned f.place.turn one.shape) (place_of f.place) (turned turn g) (place_of p)) (sym (shape_is yard b two two_is))
     (subst (λ q. AreApart (turned f.place.turn one.shape) (place_of f.place) (turned q two.shape) (place_of p)) t
@@ -153,7 +153,7 @@ piece_clear yard i piece b p at l t clear m =
 piece_apart : (yard : PlainYard) (i : ℕ) (piece : Fixed) (b : ℕ) (p : Placement) → slice_get yard.fixed i ≡ Some piece → b < length yard.blocks → p.turn < 4
     → MayMeetPiece p piece → (MeetsAt yard b p i → ⊥) → IsClearOf (place_of p) (pair_at yard (turned_count yard + i) (b * 4 + p.turn)) (piece_at piece)
 piece_apart yard i piece b p at l t may free =
-    let (block, block_is) = element yard.blocks b l in
+    let (block, block_is) = element_at yard.blocks b l in
     let apart : AreApart piece.shape (piece_at piece) (turned p.turn block.shape) (place_of p) =
     λ spot n k j. free (record {
       block = block;
@@ -181,7 +181,7 @@ meet_by_footprints yard i piece b p true at l t may told = (
   λ m. absurd (piece_clear yard i piece b p at l t (told.0 refl) m),
 )
 meet_by_footprints yard i piece b p false at l t may told =
-    let (block, block_is) = element yard.blocks b l in (
+    let (block, block_is) = element_at yard.blocks b l in (
       λ yes. record {
         block = block;
         piece = piece;
@@ -258,7 +258,7 @@ clear_near yard list near b p q h stand l t (plate, start, end) clear =
 pub footprint_turned : (yard : PlainYard) (k : ℕ) (shape : List Point) → k < turned_count yard
     → ((block : Block) → slice_get yard.blocks (k / 4) ≡ Some block → shape ≡ turned (k % 4) block.shape) → shape ≡ footprint_at yard k
 footprint_turned yard k shape l told =
-    let (block, at) = element yard.blocks (k / 4) (div_below k 4 (length yard.blocks) (omega arith) l) in
+    let (block, at) = element_at yard.blocks (k / 4) (div_below k 4 (length yard.blocks) (omega arith) l) in
     told block at ∙ ap (turned (k % 4)) (sym (shape_is yard (k / 4) block at))
     ∙ sym (cond-true (nat_lt k (turned_count yard)) (turned (k % 4) (shape_of yard (k / 4))) (piece_shape yard (k - turned_count yard)) (lt-ltb k (turned_count yard) l))
 

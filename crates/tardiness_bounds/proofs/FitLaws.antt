@@ -4,6 +4,7 @@ use Rattle.std.specs.Prelude.{slice_get, All, ◌==◌, if◌then◌else◌}
 use Rattle.std.proofs.lemmas.Bool.{cases_Bool, cases_lt, eq-eqb, eqb-true, ne_eqb, cond-true, cond-false, true≢false}
 use Rattle.std.proofs.lemmas.Option.{none-some, same_Some, slice_get-get_or, slice_get_within, get_or_from_slice_get}
 use Rattle.std.proofs.lemmas.List.Elements.{All-head, All-tail, All-cons, All-nil, All-push}
+use Rattle.common_lists.proofs.ListLaws.{element_at}
 use Rattle.shape_exact.specs.Yards.{PlainYard, IsYard}
 use Rattle.shape_exact.specs.declared.block.Block.{Block}
 use Rattle.minkowski_obstacles.proofs.ObstacleLaws.{all_push_back}
@@ -16,7 +17,6 @@ use Rattle.plan_rule.specs.Boxes.{HasExact, LeavesFree, exact, exact_code}
 use Rattle.plan_rule.specs.Bounds.{IsLeastOf, MayFit}
 use Rattle.plan_rule.specs.Choices.{IsCode, blocks, count}
 use Rattle.plan_rule.specs.Yards.{choices}
-use Rattle.plan_rule.proofs.ClashLaws.{element}
 use Rattle.plan_rule.proofs.CountLaws.{blocks-length, code_exists, cost_is, count-length}
 use Rattle.plan_rule.proofs.YardLaws.{coded}
 use Rattle.tardiness_bounds.specs.declared.slot.Slot.{Slot}
@@ -307,7 +307,7 @@ witness_more t list f b w is apart =
 pub clear_code_fits : (yard : PlainYard) (list : List Standing) (b code : ℕ) → All (IsStanding yard) list → IsCode (choices yard) b code
     → LeavesFree (literals_of list) b → IsClearAt yard list b code → MayFit (choices yard) (literals_of list) b code
 clear_code_fits yard list b code stand exist free clear =
-    let (p, at) = element (placements yard b) code (code_exists yard b code exist) in
+    let (p, at) = element_at (placements yard b) code (code_exists yard b code exist) in
     clear_fits yard list b code p stand free exist.1 at (clear p at)
 
 pub fits_clear_code : (yard : PlainYard) (list : List Standing) (b code : ℕ) → All (IsStanding yard) list → StandOnce list → LeavesFree (literals_of list) b

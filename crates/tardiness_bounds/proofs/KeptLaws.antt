@@ -5,6 +5,7 @@ use Rattle.std.proofs.lemmas.Int.{by_lt_z, ints}
 use Rattle.std.proofs.lemmas.Nat.{div-mul-add, mod-mul-add, mul-add-lt, mul-le}
 use Rattle.std.proofs.lemmas.Option.{same_Some, slice_get-get_or}
 use Rattle.std.proofs.Math.Nat.{mul_comm}
+use Rattle.common_lists.proofs.ListLaws.{only_element}
 use Rattle.shape_exact.specs.Yards.{IsYard, PlainYard}
 use Rattle.common_lists.proofs.EachLaws.{get-append_cases}
 use Rattle.shape_exact.specs.declared.point.Point.{Point}
@@ -16,7 +17,6 @@ use Rattle.lattice_free.proofs.PlaceLaws.{clear_from, overlap_not}
 use Rattle.tardiness_bounds.specs.Footprints.{footprint_count, turned_count}
 use Rattle.tardiness_bounds.specs.Obstacles.{AreObstacles}
 use Rattle.tardiness_bounds.specs.Rows.{AreRows, HaveRows, IsRowOf, span_of}
-use Rattle.tardiness_bounds.proofs.TableLaws.{only_one}
 
 -- a row that an obstacle gives
 pub row_is : (pair : Pair) (y : ℤ) (row : Option (ℤ × ℤ)) → IfNone row (IsEmptyRow pair y) → IfSome row (λ r. IsRow pair y r.0 r.1)
@@ -33,7 +33,7 @@ rows_more pairs reach n rows more pair y row long old at y_is is pushed k p r in
       | inl front ↦ old k p r in_pairs front
       | inr back ↦
           let (m, here, where_is) = back in
-          let (first, same) = only_one row r m here in
+          let (first, same) = only_element row r m here in
           let e : k ≡ n = omega arith in
           let f : pair ≡ p = same_Some pair p (sym at ∙ ap (λ k. slice_get pairs (k / span_of reach)) (sym e) ∙ in_pairs) in
           subst (λ k. IsRowOf p (pos (k % span_of reach) -ℤ pos reach) r) (sym e)

@@ -1,5 +1,4 @@
 mod ExactLaws
-mod RestLaws
 mod SideLaws
 mod WindowLaws
 mod SlotLaws

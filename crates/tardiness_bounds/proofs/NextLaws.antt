@@ -1,8 +1,9 @@
 -- What is left to a block where one more block stands.
-use Rattle.std.proofs.Common.{◌≡◌, ◌≢◌, ℕ, zero, suc, ◌+◌, ◌<◌, List, [], ◌∷◌, ◌++◌, length, Some, refl, sym, ap, ◌∙◌, subst, inl, inr, arith}
+use Rattle.std.proofs.Common.{◌≡◌, ◌≢◌, ℕ, ◌+◌, ◌<◌, List, [], ◌∷◌, ◌++◌, length, Some, sym, ap, ◌∙◌, subst, inl, inr, arith}
 use Rattle.std.specs.Prelude.{slice_get, All}
-use Rattle.std.proofs.lemmas.Option.{none-some, same_Some, slice_get_within}
+use Rattle.std.proofs.lemmas.Option.{slice_get_within}
 use Rattle.common_lists.proofs.EachLaws.{get-append_cases}
+use Rattle.common_lists.proofs.ListLaws.{only_element}
 use Rattle.minkowski_obstacles.proofs.ObstacleLaws.{all_push_back}
 use Rattle.shape_exact.specs.Yards.{PlainYard}
 use Rattle.shape_exact.specs.declared.block.Block.{Block}
@@ -70,10 +71,6 @@ next_kept t list new b Never h ne apart = (
 pub next_full : (t : PlainTables) (list : List Standing) (new : Standing) (b : ℕ) (w : Witness) → IsLeftBefore t list new b (Free w) → AreFull t list b w.slot
 next_full t list new b w h = subst (λ l. AreFull t l b w.slot) (sym h.ends) (full_more t h.before new b w.slot h.left.1.before)
 
-only_one : {A : Type 0} (x y : A) (m : ℕ) → slice_get (x ∷ []) m ≡ Some y → (m ≡ 0) × (x ≡ y)
-only_one x y zero e = (refl, same_Some x y e)
-only_one x y (suc m) e = absurd (none-some y e)
-
 -- what is so of each element and its number, with one element more
 pub each_more : {A : Type 0} (P : ℕ → A → Type 0) (xs more : List A) (x : A) (n : ℕ) → length xs ≡ n
     → ((k : ℕ) (y : A) → slice_get xs k ≡ Some y → P k y) → P n x → more ≡ xs ++ x ∷ [] → (k : ℕ) (y : A) → slice_get more k ≡ Some y → P k y
@@ -82,7 +79,7 @@ each_more P xs more x n long h here pushed k y at =
       | inl front ↦ h k y front
       | inr back ↦
           let (m, last, where_is) = back in
-          let (first, same) = only_one x y m last in
+          let (first, same) = only_element x y m last in
           let e : n ≡ k = omega arith in
           subst (P k) same (subst (λ k. P k x) e here)
     ]
@@ -96,7 +93,7 @@ each_after P xs more x base n long h here pushed k y below at =
       | inl front ↦ (let l = slice_get_within xs (base + k) y front in h k y (omega arith) front)
       | inr back ↦
           let (m, last, where_is) = back in
-          let (first, same) = only_one x y m last in
+          let (first, same) = only_element x y m last in
           let e : n ≡ k = omega arith in
           subst (P k) same (subst (λ k. P k x) e here)
     ]

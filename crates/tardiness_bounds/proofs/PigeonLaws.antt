@@ -4,13 +4,14 @@ use Rattle.std.specs.Prelude.{slice_get, All, ◌==◌, if◌then◌else◌}
 use Rattle.std.proofs.lemmas.Bool.{cases_Bool, eqb-true, eq-eqb, true≢false}
 use Rattle.std.proofs.lemmas.Option.{slice_get_within, get_or_from_slice_get}
 use Rattle.std.proofs.lemmas.List.Elements.{All-head, All-tail}
+use Rattle.common_lists.proofs.ListLaws.{only_element, take_before}
 use Rattle.shape_exact.specs.Yards.{PlainYard}
 use Rattle.common_lists.proofs.EachLaws.{get-append_cases}
 use Rattle.plan_rule.specs.declared.literal.Literal.{Literal}
 use Rattle.plan_rule.specs.Boxes.{LeavesFree, exact}
 use Rattle.tardiness_bounds.specs.declared.standing.Standing.{Standing}
 use Rattle.tardiness_bounds.specs.Standings.{StandOnce, IsStanding, literals_of}
-use Rattle.tardiness_bounds.proofs.StackLaws.{only_one, take_front, take_whole}
+use Rattle.tardiness_bounds.proofs.StackLaws.{take_whole}
 
 -- each number of a list is so
 Each : (ℕ → Type 0) → List ℕ → Type 0
@@ -117,14 +118,14 @@ pub once_more : (list more : List Standing) (new : Standing) → StandOnce list 
 once_more list more new once free is k f at = elim (get-append_cases list (new ∷ []) k f (ap (λ fs. slice_get fs k) (sym is) ∙ at)) [
   | inl front ↦
       let l = slice_get_within list k f front in
-      subst (λ fs. LeavesFree (literals_of fs) f.block) (sym (take_front list (new ∷ []) k (omega arith)) ∙ ap (take k) (sym is)) (once k f front)
+      subst (λ fs. LeavesFree (literals_of fs) f.block) (sym (take_before list (new ∷ []) k (omega arith)) ∙ ap (take k) (sym is)) (once k f front)
   | inr back ↦
       let (m, last, where_is) = back in
-      let (first, same) = only_one new f m last in
+      let (first, same) = only_element new f m last in
       let e : length list ≡ k = omega arith in
       subst (λ (f : Standing). LeavesFree (literals_of (take k more)) f.block) same
       (subst (λ fs. LeavesFree (literals_of fs) new.block)
-      (sym (take_whole list) ∙ ap (λ k. take k list) e ∙ sym (take_front list (new ∷ []) k (omega arith)) ∙ ap (take k) (sym is)) free)
+      (sym (take_whole list) ∙ ap (λ k. take k list) e ∙ sym (take_before list (new ∷ []) k (omega arith)) ∙ ap (take k) (sym is)) free)
 ]
 
 -- where a block does not stand, fewer blocks stand than there are
@@ -144,6 +145,6 @@ room_left yard list b stand once free l =
           s.block
       | inr back ↦
           let (m, last, where_is) = back in
-          let (first, same) = only_one new f m last in
+          let (first, same) = only_element new f m last in
           subst (λ (f : Standing). f.block < length yard.blocks) same l
     ]

@@ -12,8 +12,7 @@ use Rattle.plan_rule.specs.Yards.{choices}
 use Rattle.tardiness_bounds.specs.Stacks.{CanPush, PlainFrontier}
 use Rattle.plan_rule.specs.Bounds.{IsBound, IsFit, IsLeastOf, IsSumOfLeast, MayFit}
 use Rattle.plan_rule.specs.Choices.{Choices, IsCode, blocks}
-use Rattle.plan_rule.proofs.ClashLaws.{element}
-use Rattle.plan_rule.proofs.ExactLaws.{in_front, nothing_exact, passed}
+use Rattle.plan_rule.proofs.ExactLaws.{in_front, nothing_exact, passed, place-le-block}
 
 -- two boxes have the same exact codes
 abbrev pub HaveSameExacts : List Literal → List Literal → Type 0
@@ -143,16 +142,6 @@ exacts_past c box exacts n l up h at several =
           ∙ cond-false (l.hi == l.lo + 1) (Some l.lo) None (ne_eqb l.hi (l.lo + 1) several)
       | inr off ↦ ap (λ t. if t then (if l.hi == l.lo + 1 then Some l.lo else None) else None) off
     ]
-
--- a literal's block comes after as many blocks as there are literals before it
-pub place-le-block : (box : List Literal) (k : ℕ) (l : Literal) → IsAscending box → slice_get box k ≡ Some l → k ≤ l.block
-place-le-block box zero l up at = omega arith
-place-le-block box (suc k) l up at =
-    let within = slice_get_within box (suc k) l at in
-    let (m, here) = element box k (omega arith) in
-    let low = place-le-block box k m up here in
-    let less = up k (suc k) m l (omega arith) here at in
-    omega arith
 
 -- the next literal may be pushed, where it has one code
 pub may_push : (yard : PlainYard) (box : List Literal) (p : PlainFrontier) (n : ℕ) (l : Literal) → IsBox (choices yard) box → p.yard ≡ yard

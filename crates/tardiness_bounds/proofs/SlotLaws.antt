@@ -1,13 +1,14 @@
 -- The slots of a block, start by start and plate by plate.
-use Rattle.std.proofs.Common.{◌≡◌, ℕ, ◌+◌, ◌*◌, ◌/◌, ◌%◌, ◌<◌, ◌≤◌, List, [], ◌∷◌, ◌++◌, length, Some, sym, ap, ◌∙◌, subst, inl, inr, arith}
+use Rattle.std.proofs.Common.{◌≡◌, ℕ, ◌+◌, ◌*◌, ◌/◌, ◌%◌, ◌<◌, ◌≤◌, List, [], ◌∷◌, ◌++◌, length, Some, sym, ap, ◌∙◌, subst, arith}
 use Rattle.std.specs.Prelude.{All, Any, Contains, slice_get}
 use Rattle.std.specs.List.Sorted.{IsPermutation, IsNonDecreasingBy}
-use Rattle.std.proofs.lemmas.Bool.{cases_lt}
 use Rattle.std.proofs.lemmas.Nat.{div-mul-add, mod-mul-add, mul-add-lt}
 use Rattle.std.proofs.Math.Nat.{mul_comm}
 use Rattle.std.proofs.lemmas.Option.{slice_get_within}
 use Rattle.std.proofs.lemmas.List.Elements.{Contains-append_left, Contains-push}
-use Rattle.std.proofs.lemmas.List.Sorted.{All-permutation, Contains-permutation}
+use Rattle.std.proofs.lemmas.List.Sorted.{All-permutation}
+use Rattle.common_lists.proofs.ListLaws.{any_permuted}
+use Rattle.common_lists.proofs.NumberLaws.{last_or}
 use Rattle.shape_exact.specs.Yards.{PlainYard}
 use Rattle.shape_exact.specs.declared.block.Block.{Block}
 use Rattle.shape_exact.specs.declared.plate.Plate.{Plate}
@@ -28,25 +29,18 @@ any_append P xs ys (k, x, within, is, p) = any_of P (xs ++ ys) x (Contains-appen
 any_push : {A : Type 0} (P : A → Type 0) (xs : List A) (x : A) → P x → Any P (xs ++ x ∷ [])
 any_push P xs x p = any_of P (xs ++ x ∷ []) x (Contains-push xs x) p
 
-any_permuted : {A : Type 0} (P : A → Type 0) (xs ys : List A) → IsPermutation xs ys → Any P xs → Any P ys
-any_permuted P xs ys perm (k, x, within, is, p) = any_of P ys x (Contains-permutation xs ys x perm (k, within, is)) p
-
--- what is so below the next number
-next_or : (P : ℕ → Type 0) (n k : ℕ) → k < n + 1 → (k < n → P k) → P n → P k
-next_or P n k l below here = elim (cases_lt k n) [ inl less ↦ below less | inr same ↦ subst P (let e : n ≡ k = omega arith in e) here ]
-
 -- a start and a plate without an end
 pub starts_past : (yard : PlainYard) (block : Block) (n : ℕ) (slots : List Slot) → HaveStarts yard block n slots
     → ((end : ℕ) → EndsOn yard block (n / length yard.plates) (n % length yard.plates) end → ⊥) → HaveStarts yard block (n + 1) slots
 starts_past yard block n slots h none k end l =
-    next_or (λ k. EndsOn yard block (k / length yard.plates) (k % length yard.plates) end → Any (StartsAt (k / length yard.plates) (k % length yard.plates)) slots)
+    last_or (λ k. EndsOn yard block (k / length yard.plates) (k % length yard.plates) end → Any (StartsAt (k / length yard.plates) (k % length yard.plates)) slots)
     n k l (λ less. h k end less) (λ e. absurd (none end e))
 
 -- one with an end
 pub starts_more : (yard : PlainYard) (block : Block) (n : ℕ) (slots : List Slot) (s : Slot) → HaveStarts yard block n slots
     → StartsAt (n / length yard.plates) (n % length yard.plates) s → HaveStarts yard block (n + 1) (slots ++ s ∷ [])
 starts_more yard block n slots s h at k end l =
-    next_or (λ k. EndsOn yard block (k / length yard.plates) (k % length yard.plates) end → Any (StartsAt (k / length yard.plates) (k % length yard.plates)) (slots ++ s ∷ []))
+    last_or (λ k. EndsOn yard block (k / length yard.plates) (k % length yard.plates) end → Any (StartsAt (k / length yard.plates) (k % length yard.plates)) (slots ++ s ∷ []))
     n k l
     (λ less e. any_append (StartsAt (k / length yard.plates) (k % length yard.plates)) slots (s ∷ []) (h k end less e))
     (λ e. any_push (StartsAt (n / length yard.plates) (n % length yard.plates)) slots s at)

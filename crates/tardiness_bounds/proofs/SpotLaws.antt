@@ -1,8 +1,9 @@
 -- The free placements of a slot, turn by turn.
 use Rattle.std.proofs.Common.{◌≡◌, ℕ, ◌+◌, ◌*◌, ◌/◌, ◌<◌, ◌≤◌, List, length, get_or, Bool, true, false, Option, Some, None, pos, Fits, w16, refl, sym, ap, ◌∙◌, subst, inl, inr, arith, add-one}
-use Rattle.std.specs.Prelude.{slice_get, is_some, unwrap_or, ◌↔◌, All, IfSome, IfNone}
+use Rattle.std.specs.Prelude.{slice_get, is_some, unwrap_or, ◌↔◌, All, IfNone}
 use Rattle.std.proofs.lemmas.Bool.{cases_lt, cases_order, false≢true}
 use Rattle.std.proofs.lemmas.Option.{same_Some, slice_get-get_or, slice_get_within}
+use Rattle.common_lists.proofs.ListLaws.{element_at, told_true}
 use Rattle.shape_exact.specs.Yards.{PlainYard, IsPlate, IsYard}
 use Rattle.shape_exact.specs.Shapes.{turned, reach_x, reach_y}
 use Rattle.shape_exact.specs.declared.block.Block.{Block}
@@ -15,7 +16,6 @@ use Rattle.code_table.specs.declared.placement.Placement.{Placement}
 use Rattle.code_table.specs.Placements.{IsPlacement}
 use Rattle.code_table.proofs.ReadLaws.{read_at}
 use Rattle.plan_rule.specs.Clashes.{place_of}
-use Rattle.plan_rule.proofs.ClashLaws.{element}
 use Rattle.tardiness_bounds.specs.declared.near.Neighbour.{Neighbour}
 use Rattle.tardiness_bounds.specs.declared.slot.Slot.{Slot}
 use Rattle.tardiness_bounds.specs.declared.standing.Standing.{Standing}
@@ -44,11 +44,6 @@ same_end yard block s p is placed (start, on) =
     ∙ ap (λ (q : Plate). end_of (open_days yard.days q.closed) p.start block.duration) plate
     ∙ ap (λ s. end_of (open_days yard.days e.plate.closed) s block.duration) start
     ∙ e.end_is)
-
--- a test of an optional answer that holds
-pub told_true : (o : Option Bool) → unwrap_or o false ≡ true → o ≡ Some true
-told_true None e = absurd (false≢true e)
-told_true (Some b) e = ap Some e
 
 -- what is known of a slot in one turn
 pub record IsAtSlot (yard : PlainYard) (b : ℕ) (s : Slot) (turn : ℕ) (plate : Plate) (shape : List Point) (rows columns : ℕ) : Type 0 where
@@ -180,7 +175,7 @@ pub turn_some : (yard : PlainYard) (near : List Neighbour) (b : ℕ) (s : Slot) 
     → j < rows → k < columns → AreClear (obstacles_of yard (b * 4 + turn) near) (place plate.pitch j k)
     → IsFreeNear yard near b s (placed_at s turn (j * plate.pitch) (k * plate.pitch))
 turn_some yard near b s turn plate shape rows columns j k h t allowed row column clear =
-    let (block, block_is) = element yard.blocks b h.block in
+    let (block, block_is) = element_at yard.blocks b h.block in
     let slot = h.slot block block_is in
     let e = slot.ends in
     let same : e.plate ≡ plate = same_Some e.plate plate (sym e.plate_is ∙ h.plate_is) in
@@ -286,7 +281,7 @@ full_all t list b n slots are l each full block p at placed clear =
 pub slot_plate : (yard : PlainYard) (b : ℕ) (s : Slot) → b < length yard.blocks
     → ((block : Block) → slice_get yard.blocks b ≡ Some block → IsSlot yard block s) → s.plate < length yard.plates
 slot_plate yard b s l slot =
-    let (block, at) = element yard.blocks b l in
+    let (block, at) = element_at yard.blocks b l in
     let e = (slot block at).ends in
     slice_get_within yard.plates s.plate e.plate e.plate_is
 
@@ -309,10 +304,6 @@ position_fits n pitch reach side k are small l = let h = (are k).0 l in omega ar
 pub none_so : {A : Type 0} (o : Option A) (P Q : Type 0) → (P → Q) → IfNone o P → IfNone o Q
 none_so None P Q f h = f h
 none_so (Some x) P Q f h = tt
-
-pub some_so : {A : Type 0} (o : Option A) (P Q : A → Type 0) → ((x : A) → P x → Q x) → IfSome o P → IfSome o Q
-some_so None P Q f h = tt
-some_so (Some x) P Q f h = f x h
 
 -- the witness in the first slot that is not full
 pub witness_at : (t : PlainTables) (list : List Standing) (b i : ℕ) (slots : List Slot) (d : Slot) (p : Placement) → slice_get t.slots b ≡ Some slots → i < length slots

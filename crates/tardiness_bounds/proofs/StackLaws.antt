@@ -4,9 +4,10 @@ use Rattle.std.specs.Prelude.{slice_get, All}
 use Rattle.std.proofs.Math.Nat.{mul-le-mul, mul-le-mul_right, suc-mul}
 use Rattle.std.proofs.lemmas.Bool.{cases_lt}
 use Rattle.std.proofs.lemmas.List.{get_or-map, take_more}
-use Rattle.std.proofs.lemmas.Option.{none-some, same_Some, slice_get_within}
+use Rattle.std.proofs.lemmas.Option.{slice_get_within}
 use Rattle.std.proofs.lemmas.List.Elements.{All-nil, All-push, All-head, All-tail, All-cons}
 use Rattle.common_lists.proofs.EachLaws.{get-append_cases}
+use Rattle.common_lists.proofs.ListLaws.{only_element, taken_get, get_taken, take_before}
 use Rattle.plan_rule.specs.declared.literal.Literal.{Literal}
 use Rattle.plan_rule.specs.Boxes.{LeavesFree, exact}
 use Rattle.tardiness_bounds.specs.declared.left.Left.{Left}
@@ -15,13 +16,6 @@ use Rattle.tardiness_bounds.specs.Lefts.{AreLefts, AreLeftsBefore}
 use Rattle.tardiness_bounds.specs.Tables.{PlainTables}
 use Rattle.tardiness_bounds.specs.Stacks.{IsStack}
 use Rattle.tardiness_bounds.specs.Standings.{IsStanding, literals_of}
-
--- the first elements of a list with one more
-pub take_front : {A : Type 0} (xs ys : List A) (k : ℕ) → k ≤ length xs → take k (xs ++ ys) ≡ take k xs
-take_front [] ys zero l = refl
-take_front [] ys (suc k) l = absurd (omega arith)
-take_front (x ∷ xs) ys zero l = refl
-take_front (x ∷ xs) ys (suc k) l = ap (λ zs. x ∷ zs) (take_front xs ys k (omega arith))
 
 pub take_whole : {A : Type 0} (xs : List A) → take (length xs) xs ≡ xs
 take_whole [] = refl
@@ -33,17 +27,6 @@ take_less [] (suc k) zero l = absurd (omega arith)
 take_less [] (suc k) (suc n) l = refl
 take_less (x ∷ xs) (suc k) zero l = absurd (omega arith)
 take_less (x ∷ xs) (suc k) (suc n) l = ap (λ zs. x ∷ zs) (take_less xs k n (omega arith))
-
-get_taken : {A : Type 0} (xs : List A) (n k : ℕ) (x : A) → slice_get (take n xs) k ≡ Some x → (k < n) × (slice_get xs k ≡ Some x)
-get_taken [] zero k x e = absurd (none-some x e)
-get_taken [] (suc n) k x e = absurd (none-some x e)
-get_taken (y ∷ xs) zero k x e = absurd (none-some x e)
-get_taken (y ∷ xs) (suc n) zero x e = (omega arith, e)
-get_taken (y ∷ xs) (suc n) (suc k) x e = let (l, at) = get_taken xs n k x e in (omega arith, at)
-
-pub only_one : {A : Type 0} (x y : A) (m : ℕ) → slice_get (x ∷ []) m ≡ Some y → (m ≡ 0) × (x ≡ y)
-only_one x y zero e = (refl, same_Some x y e)
-only_one x y (suc m) e = absurd (none-some y e)
 
 pub length_taken : {A : Type 0} (xs : List A) (n : ℕ) → n ≤ length xs → length (take n xs) ≡ n
 length_taken xs zero l = refl
@@ -63,13 +46,6 @@ literals_push (g ∷ list) f = ap (λ ls. exact g.block g.code ∷ ls) (literals
 pub literals_length : (list : List Standing) → length (literals_of list) ≡ length list
 literals_length [] = refl
 literals_length (g ∷ list) = ap suc (literals_length list)
-
--- an element of the first ones
-taken_get : {A : Type 0} (xs : List A) (n k : ℕ) (x : A) → k < n → slice_get xs k ≡ Some x → slice_get (take n xs) k ≡ Some x
-taken_get xs zero k x l e = absurd (omega arith)
-taken_get [] (suc n) k x l e = absurd (none-some x e)
-taken_get (y ∷ xs) (suc n) zero x l e = e
-taken_get (y ∷ xs) (suc n) (suc k) x l e = taken_get xs n k x (omega arith) e
 
 -- one time more
 one_more : (a n : ℕ) → (a + 1) * n ≡ a * n + n
@@ -161,7 +137,7 @@ stack_push t list more new lefts more_lefts capacity room s is kept tall last st
       each = λ k within. elim (cases_lt k (length more)) [
         | inl before ↦
             let le : k ≤ length list = omega arith in
-            subst (λ fs. AreLefts t fs more_lefts (k * length t.yard.blocks)) (sym (take_front list (new ∷ []) k le) ∙ ap (take k) (sym is))
+            subst (λ fs. AreLefts t fs more_lefts (k * length t.yard.blocks)) (sym (take_before list (new ∷ []) k le) ∙ ap (take k) (sym is))
             (lefts_longer t (take k list) lefts more_lefts (k * length t.yard.blocks) kept (omega arith) (s.each k le))
         | inr after ↦
             let e : length more ≡ k = omega arith in
@@ -173,14 +149,14 @@ stack_push t list more new lefts more_lefts capacity room s is kept tall last st
       once = λ k f at. elim (get-append_cases list (new ∷ []) k f (ap (λ fs. slice_get fs k) (sym is) ∙ at)) [
         | inl front ↦
             let l = slice_get_within list k f front in
-            subst (λ fs. LeavesFree (literals_of fs) f.block) (sym (take_front list (new ∷ []) k (omega arith)) ∙ ap (take k) (sym is)) (s.once k f front)
+            subst (λ fs. LeavesFree (literals_of fs) f.block) (sym (take_before list (new ∷ []) k (omega arith)) ∙ ap (take k) (sym is)) (s.once k f front)
         | inr back ↦
             let (m, last, where_is) = back in
-            let (first, same) = only_one new f m last in
+            let (first, same) = only_element new f m last in
             let e : length list ≡ k = omega arith in
             subst (λ (f : Standing). LeavesFree (literals_of (take k more)) f.block) same
             (subst (λ fs. LeavesFree (literals_of fs) new.block)
-            (sym (take_whole list) ∙ ap (λ k. take k list) e ∙ sym (take_front list (new ∷ []) k (omega arith)) ∙ ap (take k) (sym is)) free)
+            (sym (take_whole list) ∙ ap (λ k. take k list) e ∙ sym (take_before list (new ∷ []) k (omega arith)) ∙ ap (take k) (sym is)) free)
       ];
     }
 

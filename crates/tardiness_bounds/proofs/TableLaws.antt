@@ -1,9 +1,10 @@
 -- The slots of one block after another, and one obstacle after another.
-use Rattle.std.proofs.Common.{◌≡◌, ℕ, zero, suc, ◌+◌, ◌*◌, ◌/◌, ◌%◌, ◌<◌, List, [], ◌∷◌, ◌++◌, length, Some, refl, sym, ap, ◌∙◌, subst, inl, inr, arith}
+use Rattle.std.proofs.Common.{◌≡◌, ℕ, zero, suc, ◌+◌, ◌*◌, ◌/◌, ◌%◌, ◌<◌, List, [], ◌∷◌, ◌++◌, length, Some, sym, ap, ◌∙◌, subst, inl, inr, arith}
 use Rattle.std.specs.Prelude.{slice_get}
 use Rattle.std.proofs.lemmas.Bool.{cases_lt}
 use Rattle.std.proofs.lemmas.Nat.{div-mul-add, mod-mul-add, mul-add-lt}
 use Rattle.std.proofs.lemmas.Option.{none-some, same_Some}
+use Rattle.common_lists.proofs.ListLaws.{only_element, get_last}
 use Rattle.shape_exact.specs.Yards.{PlainYard}
 use Rattle.shape_exact.specs.declared.block.Block.{Block}
 use Rattle.minkowski_obstacles.specs.Pairs.{Pair}
@@ -16,10 +17,6 @@ use Rattle.tardiness_bounds.specs.Tables.{AreStretches, HaveSlots}
 use Rattle.tardiness_bounds.specs.Slots.{AreSlots}
 use Rattle.std.proofs.Math.Nat.{mul_comm}
 
-pub only_one : {A : Type 0} (x y : A) (m : ℕ) → slice_get (x ∷ []) m ≡ Some y → (m ≡ 0) × (x ≡ y)
-only_one x y zero e = (refl, same_Some x y e)
-only_one x y (suc m) e = absurd (none-some y e)
-
 -- the slots of one block more
 pub slots_more : (yard : PlainYard) (blocks : List Block) (lists more : List SlotList) (i : ℕ) (block : Block) (s : SlotList)
     → length lists ≡ i → HaveSlots yard blocks lists → slice_get blocks i ≡ Some block → AreSlots yard block s.list.items → more ≡ lists ++ s ∷ []
@@ -29,7 +26,7 @@ slots_more yard blocks lists more i block s long old at is pushed b bl t in_bloc
       | inl front ↦ old b bl t in_blocks front
       | inr back ↦
           let (m, here, where_is) = back in
-          let (first, same) = only_one s t m here in
+          let (first, same) = only_element s t m here in
           let e : b ≡ i = omega arith in
           let f : block ≡ bl = same_Some block bl (sym at ∙ ap (slice_get blocks) (sym e) ∙ in_blocks) in
           subst (λ bl. AreSlots yard bl t.list.items) f (subst (λ (s : SlotList). AreSlots yard block s.list.items) same is)
@@ -44,7 +41,7 @@ stretches_more yard lists more s n long old is pushed b t at =
       | inl front ↦ old b t front
       | inr back ↦
           let (m, here, where_is) = back in
-          let (first, same) = only_one s t m here in
+          let (first, same) = only_element s t m here in
           let e : n ≡ b = omega arith in
           subst (AreStretches yard b) same (subst (λ b. AreStretches yard b s) e is)
     ]
@@ -53,10 +50,6 @@ front_at : {A : Type 0} (xs : List A) (y x : A) (k : ℕ) → slice_get xs k ≡
 front_at [] y x k e = absurd (none-some x e)
 front_at (z ∷ xs) y x zero e = e
 front_at (z ∷ xs) y x (suc k) e = front_at xs y x k e
-
-last_at : {A : Type 0} (xs : List A) (y : A) → slice_get (xs ++ y ∷ []) (length xs) ≡ Some y
-last_at [] y = refl
-last_at (z ∷ xs) y = last_at xs y
 
 -- one obstacle more
 pub obstacles_more : (yard : PlainYard) (n turned : ℕ) (list more : List Pair) (p : Pair) → length list ≡ n → HaveObstacles yard n list
@@ -69,7 +62,7 @@ obstacles_more yard n turned list more p long h same is pushed k l =
           let e : n ≡ k = omega arith in
           subst (λ k. slice_get (list ++ p ∷ []) k ≡ Some (pair_at yard (k / turned_count yard) (k % turned_count yard))) e
           (subst (λ m. slice_get (list ++ p ∷ []) m ≡ Some (pair_at yard (n / turned_count yard) (n % turned_count yard))) long
-          (last_at list p ∙ ap Some (is ∙ ap (λ s. pair_at yard (n / s) (n % s)) same)))
+          (get_last list p ∙ ap Some (is ∙ ap (λ s. pair_at yard (n / s) (n % s)) same)))
     ])
 
 -- the number of an obstacle tells its footprints

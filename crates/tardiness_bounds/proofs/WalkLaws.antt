@@ -4,6 +4,7 @@ use Rattle.std.specs.Prelude.{slice_get, All, IfNone, IfSome, is_some, true, fal
 use Rattle.std.proofs.lemmas.Bool.{cases_lt, false≢true}
 use Rattle.std.proofs.lemmas.Nat.{div-mul-add, mod-mul-add, mul-le}
 use Rattle.std.proofs.lemmas.Option.{same_Some}
+use Rattle.common_lists.proofs.ListLaws.{element_at}
 use Rattle.shape_exact.specs.Yards.{PlainYard, IsYard}
 use Rattle.shape_exact.specs.declared.block.Block.{Block}
 use Rattle.code_table.specs.declared.placement.Placement.{Placement}
@@ -12,12 +13,11 @@ use Rattle.code_table.specs.Orders.{AreAscending, ComesBefore}
 use Rattle.code_table.specs.Placements.{cost_at, cost_on, placements}
 use Rattle.code_table.specs.Stretches.{IsStretch, nth_place}
 use Rattle.code_table.proofs.PlacedLaws.{placed-facts}
-use Rattle.code_table.proofs.ReadLaws.{some_at}
 use Rattle.code_table.proofs.StandLaws.{placements-of}
 use Rattle.code_table.proofs.SpotLaws.{in_range}
+use Rattle.code_table.proofs.ReadLaws.{block_limits}
 use Rattle.lattice_free.specs.Clear.{AreClear}
 use Rattle.lattice_free.specs.Runs.{place}
-use Rattle.plan_rule.proofs.YardLaws.{block_of}
 use Rattle.tardiness_bounds.specs.declared.stand.Stand.{Stand}
 use Rattle.tardiness_bounds.specs.declared.standing.Standing.{Standing}
 use Rattle.tardiness_bounds.specs.declared.walk.Walk.{Walk}
@@ -108,7 +108,7 @@ pub free_cheap : (yard : PlainYard) (list : List Standing) (b most : ℕ) (w : W
     → IsEntered yard list b most w → w.stand.stretch.lo ≤ x → x < w.stand.stretch.hi
     → IsFreeBeside yard w.stand.near.items b x → IsCheap yard list b most x
 free_cheap yard list b most w x l standing h low high (p, at, clear) =
-    let (block, block_is) = some_at yard.blocks b l in
+    let (block, block_is) = element_at yard.blocks b l in
     let g = h.stand.ground in
     let (j, k, is) = of_stretch yard b w.stand x p g low high at in
     let facts = placed-facts yard block x p (ap (λ ps. slice_get ps x) (sym (placements-of yard b block block_is)) ∙ at) in
@@ -188,7 +188,7 @@ pub dear_start : (yard : PlainYard) (b most : ℕ) (s : Stretch) (block : Block)
 dear_start yard b most s block y block_is up is some dear x p other low high at other_is =
     let same : other ≡ block = same_Some other block (sym other_is ∙ block_is) in
     let facts = placed-facts yard block x p (ap (λ ps. slice_get ps x) (sym (placements-of yard b block block_is)) ∙ at) in
-    let order = (in_range yard block p y (block_of yard b block y block_is) facts).order in
+    let order = (in_range yard block p y (block_limits yard b block y block_is) facts).order in
     let cost : cost_at other p ≡ cost_at block p = ap (λ (block : Block). cost_at block p) same in
     let starts : s.place.start ≤ p.start = elim (cases_lt s.lo x) [
       | inl later ↦ started (nth_place s s.lo) p (up s.lo x (nth_place s s.lo) p later (is.each s.lo (omega arith) some) at)

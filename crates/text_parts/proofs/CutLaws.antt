@@ -1,9 +1,10 @@
 -- Where a text is cut, and that the parts give it back.
-use Rattle.std.proofs.Common.{◌≡◌, ◌≢◌, ℕ, zero, suc, ◌<◌, true, false, eqb, List, [], ◌∷◌, ◌++◌, length, get_or, take, drop, Option, Some, None, option_map, refl, ap, subst, inl, inr, arith}
+use Rattle.std.proofs.Common.{◌≡◌, ◌≢◌, ℕ, zero, suc, ◌<◌, true, false, eqb, List, [], ◌∷◌, ◌++◌, length, get_or, take, drop, Some, None, refl, ap, subst, inl, inr, arith}
 use Rattle.std.specs.List.{AllByRecursion, slice_split}
 use Rattle.std.proofs.lemmas.Bool.{cases_Bool, eqb-true}
 use Rattle.std.proofs.lemmas.Bool.Decides.{nat_tests}
 use Rattle.std.proofs.lemmas.Option.{none-some, same_Some}
+use Rattle.common_lists.proofs.ListLaws.{map_none}
 use Rattle.text_parts.specs.Parts.{cut}
 use Rattle.text_parts.proofs.OptionLaws.{map_some}
 
@@ -61,10 +62,6 @@ cut-again sep (b ∷ bs) rest lacks = rw (lacks.0, cut-again sep bs rest lacks.1
 pub cut-whole : (sep : ℕ) (text : List ℕ) → Lacks sep text → cut sep text ≡ None
 cut-whole sep [] lacks = refl
 cut-whole sep (b ∷ bs) lacks = rw (lacks.0, cut-whole sep bs lacks.1) refl
-
-map_none : {A B : Type 0} (f : A → B) (o : Option A) → option_map f o ≡ None → o ≡ None
-map_none f None e = refl
-map_none f (Some x) e = absurd cc
 
 -- a text that is not cut is one piece
 pub split-whole : (sep : ℕ) (bs : List ℕ) → cut sep bs ≡ None → pieces sep bs ≡ bs ∷ []

@@ -70,7 +70,7 @@ path_unique c ns i k (y ∷ es) (z ∷ fs) ic p q =
     let same : z ≡ y = let a = p.0 in let b = q.0 in omega arith in
     ap suc (path_unique c ns i (c + y) es fs ic p.3 (subst (λ j. Path c ns i (c + j) fs) same q.3))
 
-lacks_if : (e : ℕ) (es : List ℕ) → (Has e es → ⊥) → Lacks e es
+pub lacks_if : (e : ℕ) (es : List ℕ) → (Has e es → ⊥) → Lacks e es
 lacks_if e [] h = tt
 lacks_if e (y ∷ es) h = ((λ same. h (inl same)), lacks_if e es (λ rest. h (inr rest)))
 

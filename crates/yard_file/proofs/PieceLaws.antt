@@ -2,11 +2,11 @@
 use Rattle.std.proofs.Common.{◌≡◌, ◌<◌, ◌≤◌, ◌+◌, ℕ, Bool, true, false, List, Option, Some, None, Result, Ok, Err, refl, sym, subst, arith}
 use Rattle.std.specs.Prelude.{IfOk, if◌then◌else◌, nat_le, slice_get}
 use Rattle.std.proofs.lemmas.Bool.Decides.{nat_tests}
+use Rattle.common_lists.proofs.ListLaws.{both_true}
 use Rattle.shape_exact.specs.Shapes.{IsShape, reach_x, reach_y}
 use Rattle.shape_exact.specs.Yards.{IsPiece, LiesWithin}
 use Rattle.shape_exact.specs.declared.fixed.Fixed.{Fixed}
 use Rattle.shape_exact.specs.declared.plate.Plate.{Plate}
-use Rattle.shape_exact.proofs.ApartLaws.{both_true}
 use Rattle.yard_file.specs.Pieces.{in_plate, is_in_plate}
 use Rattle.yard_file.specs.declared.fault.YardFault.{YardFault}
 use Rattle.yard_file.specs.declared.fault.YardFault.TheVariants.{FixedOutside}

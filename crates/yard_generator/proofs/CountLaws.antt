@@ -3,8 +3,8 @@ use Rattle.std.proofs.Common.{◌≡◌, ℕ, zero, suc, ◌+◌, ◌*◌, ◌<�
 use Rattle.std.specs.Prelude.{nat_le, slice_get, unwrap_or}
 use Rattle.std.proofs.lemmas.List.{append-nil}
 use Rattle.std.proofs.lemmas.Bool.{lt-leb}
-use Rattle.common_lists.specs.Each.{each, when, for_some, sum_below}
-use Rattle.common_lists.proofs.EachLaws.{each-add, each_agree, each-nil, length-each, sum_below-const}
+use Rattle.common_lists.specs.Each.{each, when, for_some}
+use Rattle.common_lists.proofs.EachLaws.{each-add, each_agree, each-nil, length-each, sum_below-const, sum-le, when_false}
 use Rattle.shape_exact.specs.Shapes.{turned, reach_x, reach_y}
 use Rattle.plate_calendar.specs.Calendars.{open_days, end_of}
 use Rattle.code_table.specs.declared.placement.Placement.{Placement}
@@ -13,18 +13,11 @@ use Rattle.yard_generator.specs.declared.draws.Drawn.{Drawn}
 use Rattle.yard_generator.specs.Draws.{blocks_from}
 use Rattle.yard_generator.specs.Yards.{plate_at, block_with, blocks_with, drawn_yard}
 
-sum_le : (n : ℕ) (f g : ℕ → ℕ) → ((i : ℕ) → i < n → f i ≤ g i) → sum_below n f ≤ sum_below n g
-sum_le zero f g h = omega arith
-sum_le (suc n) f g h =
-    let front = sum_le n f g (λ i l. h i (omega arith)) in
-    let last = h n (omega arith) in
-    omega arith
-
 -- so many lists, each with at most so many members
 each_le : {A : Type 0} (n most : ℕ) (f : ℕ → List A) → ((i : ℕ) → i < n → length (f i) ≤ most) → length (each n f) ≤ n * most
 each_le n most f h =
     let a = length-each n f in
-    let b = sum_le n (λ i. length (f i)) (λ i. most) h in
+    let b = sum-le n (λ i. length (f i)) (λ i. most) h in
     let c = sum_below-const n most (λ i. most) (λ i l. refl) in
     omega arith
 
@@ -35,10 +28,6 @@ when_le false xs most h = omega arith
 some_le : {A B : Type 0} (o : Option A) (f : A → List B) (most : ℕ) → ((x : A) → length (f x) ≤ most) → length (for_some o f) ≤ most
 some_le None f most h = omega arith
 some_le (Some x) f most h = h x
-
-when_false : {A : Type 0} (b : Bool) (xs : List A) → b ≡ false → when b xs ≡ []
-when_false true xs e = cc
-when_false false xs e = refl
 
 -- steps of 2 within a size
 step_le : {A : Type 0} (long size n r most : ℕ) (f : ℕ → List A) → size + 1 ≡ n + r → size < n * 2 → ((i : ℕ) → length (f i) ≤ most)

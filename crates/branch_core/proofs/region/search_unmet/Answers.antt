@@ -1,7 +1,8 @@
 use Rattle.std.proofs.Common.{subst, arith}
+use Rattle.common_lists.proofs.ListLaws.{match_some}
 use Rattle.plan_rule.specs.Yards.{choices}
 use Rattle.branch_core.specs.Fronts.{IsFrontOf}
-use Rattle.branch_core.proofs.HitLaws.{not_beaten, match_some}
+use Rattle.branch_core.proofs.HitLaws.{not_beaten}
 use Rattle.branch_core.proofs.RegionLaws.{divided, ended_from, ended_onto, front_shown, part_next, single_from}
 use Rattle.branch_core.proofs.SolveLaws.{region_node}
 use Rattle.branch_kernel.proofs.NodeLaws.{match_none, ready_later, runs_later, runs_self, runs_onto}

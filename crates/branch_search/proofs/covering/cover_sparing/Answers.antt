@@ -1,6 +1,7 @@
+use Rattle.common_lists.proofs.ListLaws.{ok_weaker}
 use Rattle.plan_rule.specs.Yards.{choices}
 use Rattle.branch_kernel.proofs.GrowthLaws.{grows_falls}
-use Rattle.branch_kernel.proofs.NodeLaws.{ok_weaker, runs_after, runs_falls}
+use Rattle.branch_kernel.proofs.NodeLaws.{runs_after, runs_falls}
 use Rattle.branch_search.proofs.CycleLaws.{coverage_from}
 use Rattle.branch_search.proofs.covering.cover_sparing.Goals as goal
 

@@ -1,9 +1,10 @@
 use Rattle.std.proofs.Common.{sym, subst}
+use Rattle.common_lists.proofs.ListLaws.{some_weaker}
 use Rattle.plan_rule.specs.Boxes.{IsBox, LeavesFree}
 use Rattle.plan_rule.specs.Yards.{choices}
 use Rattle.branch_kernel.specs.Marks.{has}
 use Rattle.branch_kernel.proofs.DropLaws.{kept_box, kept_free}
-use Rattle.branch_search.proofs.FloorLaws.{kept_base, kept_clash, short_part, some_weaker}
+use Rattle.branch_search.proofs.FloorLaws.{kept_base, kept_clash, short_part}
 use Rattle.branch_search.proofs.covering.kept_covers.Goals as goal
 
 pub clashing-requires-clause-side : goal.clashing-requires-clause-side

@@ -1,6 +1,7 @@
 use Rattle.std.proofs.Common.{◌≡◌, ◌+◌, ◌*◌, ◌<◌, ◌≤◌, ◌∙◌, refl, sym, ap, subst, inl, inr, arith, length}
 use Rattle.std.specs.Prelude.{option_to_list}
 use Rattle.std.proofs.lemmas.Option.{same_Some}
+use Rattle.common_lists.proofs.ListLaws.{match_some, ok_weaker}
 use Rattle.plan_rule.specs.Boxes.{exact}
 use Rattle.plan_rule.specs.Yards.{choices}
 use Rattle.branch_kernel.specs.States.{state}
@@ -8,13 +9,13 @@ use Rattle.branch_kernel.specs.Boxes.{inexact}
 use Rattle.branch_kernel.specs.Marks.{has}
 use Rattle.branch_kernel.specs.declared.covering.Covered.{Covered}
 use Rattle.branch_kernel.specs.Shows.{IsHandledBy, IsShown}
-use Rattle.branch_kernel.proofs.NodeLaws.{runs_self, runs_onto, ready_later, node_at, place_of_node, cited_empty, cited_once_more, ok_weaker, match_none}
+use Rattle.branch_kernel.proofs.NodeLaws.{runs_self, runs_onto, ready_later, node_at, place_of_node, cited_empty, cited_once_more, match_none}
 use Rattle.branch_kernel.proofs.DropLaws.{shown_from}
 use Rattle.branch_search.proofs.FitLaws.{asked_low, asked_own}
 use Rattle.branch_kernel.proofs.WalkLaws.{flipped, jump_shown, jumped_node, along_settled, below_all, by_a_part, node_part, open_inexact, part_open, range_fewer, side_inside}
 use Rattle.branch_kernel.proofs.SplitLaws.{split_node, split_inside, shown_inside, split_inexact, child_inexact}
 use Rattle.branch_kernel.proofs.CloseLaws.{closed_done}
-use Rattle.branch_search.proofs.CycleLaws.{covers_from, handled_all, handled_next, listed, match_some, opened}
+use Rattle.branch_search.proofs.CycleLaws.{covers_from, handled_all, handled_next, listed, opened}
 use Rattle.branch_search.proofs.cycle.+refute.Goals as goal
 
 pub divide-loop-at-init : goal.divide-loop-at-init

@@ -1,6 +1,6 @@
+use Rattle.common_lists.proofs.ListLaws.{match_some}
 use Rattle.plan_rule.specs.Yards.{choices}
 use Rattle.branch_kernel.proofs.NodeLaws.{runs_falls, runs_unwritten}
-use Rattle.branch_search.proofs.CycleLaws.{match_some}
 use Rattle.branch_search.proofs.FitLaws.{fitted_shown, side_among}
 use Rattle.branch_search.proofs.fits.fitted.Goals as goal
 

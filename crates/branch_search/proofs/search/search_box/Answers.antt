@@ -1,7 +1,8 @@
-use Rattle.std.proofs.Common.{◌∙◌, arith, subst, sym}
+use Rattle.std.proofs.Common.{◌∙◌, subst, sym}
+use Rattle.common_lists.proofs.ListLaws.{ok_weaker}
 use Rattle.plan_rule.specs.Yards.{choices}
 use Rattle.branch_kernel.specs.Shows.{IsShown}
-use Rattle.branch_kernel.proofs.NodeLaws.{ok_weaker, runs_self}
+use Rattle.branch_kernel.proofs.NodeLaws.{runs_self}
 use Rattle.branch_kernel.proofs.WalkLaws.{open_inexact, part_open}
 use Rattle.branch_search.proofs.CycleLaws.{cut_box}
 use Rattle.branch_search.proofs.search.search_box.Goals as goal

@@ -7,8 +7,8 @@ use Rattle.plan_rule.specs.Yards.{choices}
 use Rattle.log_merge.specs.Tiles.{times}
 use Rattle.branch_workers.proofs.CrewLaws.{all_deeper, back_seated, back_ready, back_tiled, below_back}
 use Rattle.branch_workers.proofs.BestLaws.{best_is, last_is, sound_reached}
-use Rattle.branch_workers.proofs.TraceLaws.{all_short, best_answers, dealt_back, leaves_of, once_back}
-use Rattle.branch_core.proofs.AnswerLaws.{proper_text}
+use Rattle.branch_workers.proofs.TraceLaws.{all_short, dealt_back, leaves_of, once_back}
+use Rattle.branch_core.proofs.AnswerLaws.{proper_text, best_answers}
 use Rattle.branch_workers.proofs.crewed.crew.Goals as goal
 
 pub reported-collected-requires-clause-dealt : goal.reported-collected-requires-clause-dealt

@@ -3,7 +3,7 @@ use Rattle.std.specs.Prelude.{slice_get}
 use Rattle.std.proofs.lemmas.Option.{slice_get_read}
 use Rattle.shape_exact.specs.Yards.{PlainYard}
 use Rattle.shape_exact.specs.declared.block.Block.{Block}
-use Rattle.plan_rule.proofs.YardLaws.{block_of}
+use Rattle.code_table.proofs.ReadLaws.{block_limits}
 use Rattle.log_checker.proofs.block.block_at.Goals as goal
 
 -- the blocks that were read are the yard's
@@ -19,4 +19,4 @@ returns-clause-value c =
     c.index-blocks-block.is)
 
 pub returns-clause-limits : goal.returns-clause-limits
-returns-clause-limits c = block_of c.args.codes.now c.args.block c.index-blocks-block.result c.yard.ensures.limits (returns-clause-value c)
+returns-clause-limits c = block_limits c.args.codes.now c.args.block c.index-blocks-block.result c.yard.ensures.limits (returns-clause-value c)

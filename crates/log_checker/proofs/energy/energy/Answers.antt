@@ -2,7 +2,8 @@ use Rattle.std.proofs.Common.{sym, ap, ◌∙◌, arith}
 use Rattle.shape_exact.specs.Yards.{PlainYard}
 use Rattle.std.proofs.lemmas.Bool.{iff_false}
 use Rattle.plan_rule.specs.Yards.{choices}
-use Rattle.log_checker.proofs.WindowLaws.{codes_of_base, days_are, energy_last, energy_tight}
+use Rattle.plan_rule.proofs.WindowLaws.{days_are, codes_of_base}
+use Rattle.log_checker.proofs.WindowLaws.{energy_last, energy_tight}
 use Rattle.log_checker.proofs.energy.energy.Goals as goal
 
 pub least_raise-requires : goal.least_raise-requires

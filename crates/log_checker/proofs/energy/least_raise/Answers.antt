@@ -2,8 +2,9 @@ use Rattle.std.proofs.Common.{◌≡◌, ◌+◌, ◌<◌, ◌^◌, sym, subst, 
 use Rattle.std.specs.Prelude.{IfSome}
 use Rattle.plan_rule.specs.Choices.{blocks}
 use Rattle.plan_rule.specs.Yards.{choices}
+use Rattle.plan_rule.proofs.WindowLaws.{lesser_few}
 use Rattle.log_checker.specs.Windows.{IsLeastRaiseBelow}
-use Rattle.log_checker.proofs.WindowLaws.{lesser_few, raise_more}
+use Rattle.log_checker.proofs.WindowLaws.{raise_more}
 use Rattle.log_checker.proofs.energy.least_raise.Goals as goal
 
 pub loop-block-preserved : goal.loop-block-preserved

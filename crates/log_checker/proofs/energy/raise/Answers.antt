@@ -1,7 +1,7 @@
 use Rattle.std.proofs.Common.{◌≡◌, ◌+◌, ◌-◌, Some, sym, ◌∙◌, arith}
 use Rattle.std.proofs.lemmas.Nat.{mul-le}
 use Rattle.plan_rule.proofs.CountLaws.{block_exists, count-length}
-use Rattle.log_checker.proofs.LeastLaws.{least_of_codes}
+use Rattle.plan_rule.proofs.RestLaws.{least_of_codes}
 use Rattle.log_checker.proofs.WindowLaws.{raise_of}
 use Rattle.log_checker.proofs.energy.raise.Goals as goal
 

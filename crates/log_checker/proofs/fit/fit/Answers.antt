@@ -5,11 +5,11 @@ use Rattle.plan_rule.specs.Choices.{Choices, blocks}
 use Rattle.plan_rule.specs.Bounds.{MayFit}
 use Rattle.plan_rule.specs.Yards.{choices}
 use Rattle.plan_rule.proofs.TellLaws.{told}
+use Rattle.plan_rule.proofs.RestLaws.{sum_more}
 use Rattle.log_checker.specs.ExactBlocks.{AreExact}
 use Rattle.log_checker.specs.Leasts.{IsFitUpTo}
 use Rattle.log_checker.proofs.FitExistLaws.{fit_exists}
 use Rattle.log_checker.proofs.FitLaws.{above_by_next, above_by_rest, never_fits, rest_has, rest_next, rest_start}
-use Rattle.log_checker.proofs.LeastLaws.{sum_more}
 use Rattle.log_checker.proofs.fit.fit.Goals as goal
 
 none : (c : Choices) (side : List Literal) (limit : ℕ) (o : Option ℕ) → o ≡ None → IsFitUpTo c side limit None → IsFitUpTo c side limit o

@@ -1,9 +1,9 @@
 use Rattle.std.proofs.Common.{sym}
 use Rattle.plan_rule.specs.Yards.{choices}
 use Rattle.plan_rule.proofs.CountLaws.{block_exists, code_exists}
+use Rattle.plan_rule.proofs.RestLaws.{exact_exists}
 use Rattle.log_checker.proofs.FreeLaws.{least_clear_fits}
 use Rattle.log_checker.proofs.LeastLaws.{fits_exact}
-use Rattle.log_checker.proofs.RestLaws.{exact_exists}
 use Rattle.log_checker.proofs.fit.least_fit.Goals as goal
 
 pub own_cost-requires-clause-block : goal.own_cost-requires-clause-block

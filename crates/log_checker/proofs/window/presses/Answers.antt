@@ -2,7 +2,8 @@ use Rattle.std.proofs.Common.{sym, ap, ◌∙◌}
 use Rattle.std.specs.Prelude.{nat_le, ◌&&◌}
 use Rattle.std.proofs.lemmas.Bool.{and_left, le-leb, lt-leb}
 use Rattle.plan_rule.proofs.CountLaws.{block_exists}
-use Rattle.log_checker.proofs.WindowLaws.{none_of, presses_free}
+use Rattle.plan_rule.proofs.WindowLaws.{presses_free}
+use Rattle.log_checker.proofs.WindowLaws.{none_of}
 use Rattle.log_checker.proofs.window.presses.Goals as goal
 
 pub block_at-data-requires : goal.block_at-data-requires

@@ -1,6 +1,6 @@
 use Rattle.plan_rule.proofs.CountLaws.{block_exists, code_exists}
 use Rattle.std.proofs.Common.{◌∙◌}
-use Rattle.log_checker.proofs.WindowLaws.{taken_of}
+use Rattle.plan_rule.proofs.WindowLaws.{taken_of}
 use Rattle.log_checker.proofs.window.taken.Goals as goal
 
 pub place-place-requires-clause-block : goal.place-place-requires-clause-block

@@ -1,6 +1,6 @@
 use Rattle.std.proofs.Common.{sym}
 use Rattle.plan_rule.specs.Yards.{choices}
-use Rattle.log_checker.proofs.RestLaws.{exact_exists}
+use Rattle.plan_rule.proofs.RestLaws.{exact_exists}
 use Rattle.log_checker.proofs.window.used_by.Goals as goal
 
 pub taken-requires : goal.taken-requires

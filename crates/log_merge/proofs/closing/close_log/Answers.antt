@@ -1,6 +1,6 @@
 use Rattle.std.proofs.Common.{arith, ◌∙◌, sym, subst, length, ◌<◌, ◌^◌}
+use Rattle.common_lists.proofs.ListLaws.{get_within}
 use Rattle.plan_rule.specs.Yards.{choices}
-use Rattle.refutation_log.proofs.AppendedLaws.{within}
 use Rattle.plan_rule.proofs.CountLaws.{blocks-length, count-length}
 use Rattle.log_merge.proofs.ClosingLaws.{closed_accepted, branch_is}
 use Rattle.log_merge.proofs.closing.close_log.Goals as goal
@@ -8,7 +8,7 @@ use Rattle.log_merge.proofs.closing.close_log.Goals as goal
 pub new-requires-2 : goal.new-requires-2
 new-requires-2 c =
     let few = subst (λ l. length l < 10 ^ 18) c.records-records.ensures.value c.records-records.ensures.few in
-    let low = within c.args.log.now c.args.root c.requires.root c.requires.at in
+    let low = get_within c.args.log.now c.args.root c.requires.root c.requires.at in
     ((omega arith, tt), (omega arith, tt))
 
 pub returns : goal.returns

@@ -1,6 +1,7 @@
 use Rattle.std.proofs.Common.{◌≡◌, [], ◌∷◌, ◌++◌, ◌<◌, ◌∙◌, Some, ap, arith, get_or, length, subst}
 use Rattle.std.specs.Prelude.{slice_get}
-use Rattle.log_parts.proofs.PartLaws.{closing_begins, closing_ends, closing_more, default, picked_within, read_at}
+use Rattle.common_lists.proofs.ListLaws.{get_or-default}
+use Rattle.log_parts.proofs.PartLaws.{closing_begins, closing_ends, closing_more, picked_within, read_at}
 use Rattle.log_parts.proofs.picked.closure_of.Goals as goal
 
 pub loop-i-init : goal.loop-i-init
@@ -12,7 +13,7 @@ returns-then-i-len c = closing_ends _ _ _ c.loop-i.i (omega arith) c.loop-i.inva
 pub loop-i-preserved : goal.loop-i-preserved
 loop-i-preserved c =
     let inside : c.loop-i.i < length c.loop-i.picked.items = let w = c.loop-i.invariant.within in omega arith in
-    let own_is : c.index.result.now ≡ get_or c.loop-i.picked.items c.loop-i.i 0 = c.index.ensures ∙ default c.loop-i.picked.items c.loop-i.i c.index.result.now 0 inside in
+    let own_is : c.index.result.now ≡ get_or c.loop-i.picked.items c.loop-i.i 0 = c.index.ensures ∙ get_or-default c.loop-i.picked.items c.loop-i.i c.index.result.now 0 inside in
     closing_more c.args.log.now c.args.last c.loop-i.picked.items c.add_cites.new.picked.items c.loop-i.i c.index-records-index.result c.requires.earlier c.loop-i.invariant inside
     (subst (λ k. slice_get c.args.log.now k ≡ Some c.index-records-index.result) own_is
     (read_at c.records-records.result.now c.args.log.now c.index.result.now c.index-records-index.result c.records-records.ensures.value

@@ -1,6 +1,6 @@
 use Rattle.std.proofs.Common.{◌+◌, length, sym, ap, ◌∙◌, arith}
 use Rattle.std.proofs.lemmas.Result.{err_from_is_err_and}
-use Rattle.code_table.proofs.ReadLaws.{some_at}
+use Rattle.common_lists.proofs.ListLaws.{element_at}
 use Rattle.plan_rule.proofs.CountLaws.{blocks-length}
 use Rattle.plan_text.proofs.RowLaws.{read_at}
 use Rattle.plan_text.proofs.TurnLaws.{no_line, next_row, row_fault, all_rows, fails_so}
@@ -10,7 +10,7 @@ pub returns-in_default : goal.returns-in_default
 returns-in_default c =
     let l = c.loop-block in
     let n = blocks-length c.args.codes.now in
-    let (b, here) = some_at c.args.codes.now.blocks l.block (omega arith) in
+    let (b, here) = element_at c.args.codes.now.blocks l.block (omega arith) in
     rw c.from-number.ensures (no_line c.args.codes.now l.block b l.list.items l.rest.now _ here l.invariant (sym c.in_default.ensures.parts))
 
 pub bounds-blocks-block : goal.bounds-blocks-block

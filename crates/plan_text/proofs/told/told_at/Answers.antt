@@ -1,8 +1,9 @@
 use Rattle.std.proofs.Common.{◌≡◌, Some, None, sym, subst, ◌∙◌}
 use Rattle.std.proofs.lemmas.Bool.{false≢true}
 use Rattle.std.proofs.lemmas.Option.{slice_get_within}
+use Rattle.common_lists.proofs.ListLaws.{element_at}
 use Rattle.code_table.specs.Codes.{IsCode}
-use Rattle.code_table.proofs.ReadLaws.{some_at, block_limits}
+use Rattle.code_table.proofs.ReadLaws.{block_limits}
 use Rattle.code_table.proofs.StandLaws.{placements-of}
 use Rattle.plan_text.specs.Rows.{entry}
 use Rattle.plan_text.specs.Told.{end_on}
@@ -22,7 +23,7 @@ code-requires c = slice_get_within c.args.codes.now.blocks c.args.block c.args.o
 
 pub returns-in_err-code : goal.returns-in_err-code
 returns-in_err-code c =
-    let (plate, at) = some_at c.args.codes.now.plates c.args.plate c.requires.plate in
+    let (plate, at) = element_at c.args.codes.now.plates c.args.plate c.requires.plate in
     let row = entry c.args.row.now in
     let ends : end_on c.args.codes.now c.args.of.now c.args.plate c.args.row.now.start ≡ Some c.in_ok-end.end =
     end_by c.args.codes.now c.args.of.now c.args.plate c.args.row.now.start plate c.calendar.result.now (Some c.in_ok-end.end) at (c.calendar.ensures plate at) c.in_ok-end.ensures in
@@ -31,7 +32,7 @@ returns-in_err-code c =
 
 pub returns : goal.returns
 returns c =
-    let (plate, at) = some_at c.args.codes.now.plates c.args.plate c.requires.plate in
+    let (plate, at) = element_at c.args.codes.now.plates c.args.plate c.requires.plate in
     let row = entry c.args.row.now in
     let ends : end_on c.args.codes.now c.args.of.now c.args.plate c.args.row.now.start ≡ Some c.in_ok-end.end =
     end_by c.args.codes.now c.args.of.now c.args.plate c.args.row.now.start plate c.calendar.result.now (Some c.in_ok-end.end) at (c.calendar.ensures plate at) c.in_ok-end.ensures in

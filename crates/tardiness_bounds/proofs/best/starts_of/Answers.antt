@@ -4,9 +4,9 @@ use Rattle.std.proofs.lemmas.List.{get_or-replicate, length-replicate, length-se
 use Rattle.plan_rule.specs.Choices.{blocks}
 use Rattle.plan_rule.specs.Yards.{choices}
 use Rattle.plan_rule.proofs.CountLaws.{block_exists}
+use Rattle.plan_rule.proofs.WindowLaws.{release_is}
 use Rattle.tardiness_bounds.proofs.MarkLaws.{HasBlock, mark_more, mark_none, mark_past}
 use Rattle.tardiness_bounds.proofs.SideLaws.{has_entry, no_exact, some_exact}
-use Rattle.tardiness_bounds.proofs.WindowLaws.{release_is}
 use Rattle.tardiness_bounds.proofs.best.starts_of.Goals as goal
 use Rattle.tardiness_bounds.proofs.best.starts_of.Goals.{then-is_none, else-is_none}
 

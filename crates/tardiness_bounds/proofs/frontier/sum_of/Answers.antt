@@ -1,8 +1,8 @@
 use Rattle.std.proofs.Common.{arith}
 use Rattle.plan_rule.specs.Bounds.{MayFit}
 use Rattle.plan_rule.specs.Yards.{choices}
+use Rattle.plan_rule.proofs.RestLaws.{sum_more}
 use Rattle.tardiness_bounds.specs.Standings.{literals_of}
-use Rattle.tardiness_bounds.proofs.RestLaws.{sum_more}
 use Rattle.tardiness_bounds.proofs.frontier.sum_of.Goals as goal
 
 pub loop-block-preserved : goal.loop-block-preserved

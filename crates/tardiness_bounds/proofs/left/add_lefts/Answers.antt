@@ -1,12 +1,12 @@
 use Rattle.std.proofs.Common.{◌≡◌, ◌+◌, ◌<◌, [], ◌∷◌, length, take, get_or, sym, ap, subst, ◌∙◌, length-append, arith}
-use Rattle.std.specs.Prelude.{slice_get}
 use Rattle.std.proofs.lemmas.Option.{slice_get-get_or}
+use Rattle.common_lists.proofs.ListLaws.{take_before}
 use Rattle.plan_rule.specs.Choices.{blocks}
 use Rattle.plan_rule.specs.Yards.{choices}
 use Rattle.plan_rule.proofs.CountLaws.{block_exists, blocks-length}
 use Rattle.tardiness_bounds.specs.Lefts.{IsLeft}
 use Rattle.tardiness_bounds.proofs.NextLaws.{each_after}
-use Rattle.tardiness_bounds.proofs.StackLaws.{kept_get, take_front}
+use Rattle.tardiness_bounds.proofs.StackLaws.{kept_get}
 use Rattle.tardiness_bounds.proofs.left.add_lefts.Goals as goal
 
 pub index-requires : goal.index-requires
@@ -47,7 +47,7 @@ loop-block-preserved c =
     record {
       len = omega arith;
       kept = ap (take (length c.args.lefts.now.items)) c.in-Ok.ensures.items
-          ∙ take_front c.loop-block.lefts.items (c.next_left-left.result ∷ []) (length c.args.lefts.now.items) (omega arith) ∙ c.loop-block.invariant.kept;
+          ∙ take_before c.loop-block.lefts.items (c.next_left-left.result ∷ []) (length c.args.lefts.now.items) (omega arith) ∙ c.loop-block.invariant.kept;
       each = each_after (IsLeft c.args.tables.now c.args.list.now) c.loop-block.lefts.items c.push.new.self.items c.next_left-left.result (length c.args.lefts.now.items) c.loop-block.block
           c.loop-block.invariant.len c.loop-block.invariant.each c.next_left-left.ensures c.in-Ok.ensures.items;
       room = (let r = c.loop-block.invariant.room in let p = c.push.ensures.capacity in omega arith);

@@ -1,7 +1,7 @@
 use Rattle.std.proofs.Common.{sym}
 use Rattle.plan_rule.specs.Yards.{choices}
 use Rattle.plan_rule.proofs.CountLaws.{code_exists}
-use Rattle.tardiness_bounds.proofs.RestLaws.{exact_exists, least_exact, least_free}
+use Rattle.plan_rule.proofs.RestLaws.{exact_exists, least_exact, least_free}
 use Rattle.tardiness_bounds.proofs.rest.least_in.Goals as goal
 
 pub own_cost-requires-clause-code : goal.own_cost-requires-clause-code

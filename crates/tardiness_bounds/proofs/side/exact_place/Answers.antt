@@ -1,7 +1,7 @@
 use Rattle.std.proofs.Common.{sym}
 use Rattle.plan_rule.specs.Yards.{choices}
 use Rattle.plan_rule.proofs.CountLaws.{block_exists, code_exists}
-use Rattle.tardiness_bounds.proofs.RestLaws.{exact_exists}
+use Rattle.plan_rule.proofs.RestLaws.{exact_exists}
 use Rattle.tardiness_bounds.proofs.side.exact_place.Goals as goal
 
 pub place-requires-clause-block : goal.place-requires-clause-block

@@ -1,10 +1,10 @@
 use Rattle.std.proofs.Common.{◌≡◌, length, Some, sym, ap, subst, ◌∙◌, arith}
 use Rattle.std.specs.Prelude.{slice_get}
+use Rattle.common_lists.proofs.ListLaws.{element_at}
 use Rattle.shape_exact.specs.Shapes.{turned}
 use Rattle.shape_exact.specs.Yards.{PlainYard, IsYard}
 use Rattle.shape_exact.specs.declared.block.Block.{Block}
 use Rattle.code_table.specs.Stretches.{HasEach, IsStretch}
-use Rattle.code_table.proofs.ReadLaws.{some_at}
 use Rattle.code_table.proofs.StandLaws.{placements-of}
 use Rattle.code_table.proofs.StretchLaws.{stretch_limits}
 use Rattle.lattice_free.specs.Runs.{IsPitch}
@@ -52,7 +52,7 @@ returns-clause-stand c =
     let r = stretch_limits c.args.tables.now.yard c.args.block c.args.stretch.lo c.args.stretch y c.requires.block c.requires.stretch (omega arith) c.requires.some in
     let (at, limits) = plate_read c.args.tables.now.yard c.codes-codes.result.now c.yard.result.now c.plates-plates.result.now c.args.stretch.place.plate c.index-plates-stretch.result c.yard.ensures.limits
     c.codes-codes.ensures c.yard.ensures.value c.plates-plates.ensures.value r.plate c.index-plates-stretch.is in
-    let (block, block_is) = some_at c.args.tables.now.yard.blocks c.args.block c.requires.block in
+    let (block, block_is) = element_at c.args.tables.now.yard.blocks c.args.block c.requires.block in
     let s : Stand = record { stretch = c.args.stretch; lattice = c.lattice_of-lattice.result; near = c.near_to.new.near } in
     let ps = placements-of c.args.tables.now.yard c.args.block block block_is in
     record {

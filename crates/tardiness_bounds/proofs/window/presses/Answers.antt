@@ -2,8 +2,8 @@ use Rattle.std.proofs.Common.{sym, ap, ◌∙◌}
 use Rattle.std.specs.Prelude.{nat_le, ◌&&◌}
 use Rattle.std.proofs.lemmas.Bool.{and_left, le-leb, lt-leb}
 use Rattle.plan_rule.proofs.CountLaws.{block_exists}
+use Rattle.plan_rule.proofs.WindowLaws.{presses_free, presses_exact}
 use Rattle.tardiness_bounds.proofs.SideLaws.{has_entry, no_exact, some_exact}
-use Rattle.tardiness_bounds.proofs.WindowLaws.{presses_exact, presses_free}
 use Rattle.plan_rule.specs.Yards.{choices}
 use Rattle.tardiness_bounds.proofs.window.presses.Goals as goal
 

@@ -1,11 +1,12 @@
 use Rattle.std.proofs.Common.{◌<◌, ◌∙◌, ap, sym, length, arith}
 use Rattle.std.proofs.lemmas.Option.{same_Some}
-use Rattle.code_table.proofs.ReadLaws.{some_at, read_at}
+use Rattle.common_lists.proofs.ListLaws.{element_at}
+use Rattle.code_table.proofs.ReadLaws.{read_at}
 use Rattle.code_table.proofs.codes.Codes.shape.Goals as goal
 
 pub bounds-shapes-turn : goal.bounds-shapes-turn
 bounds-shapes-turn c =
-    let (b, at) = some_at c.args.self.now.blocks c.args.block c.requires.block in
+    let (b, at) = element_at c.args.self.now.blocks c.args.block c.requires.block in
     let t = c.table.ensures.is b at in let e = ap length c.as_slice-shapes.ensures.value in omega (arith, t.turns)
 
 pub returns : goal.returns
