@@ -2,6 +2,8 @@
 use Rattle.std.proofs.Common.{◌≡◌, ℕ, zero, suc, ◌-◌, ◌+◌, ◌<◌, arith, subst, inl, inr, ap, ◌∙◌, ◌⊎◌, ◌*◌, ◌^◌, ◌≤◌}
 use Rattle.std.proofs.lemmas.Bool.{cases_lt}
 use Rattle.std.proofs.lemmas.Int.{ints}
+use lib.IntN.{ℤ, pos, negsuc, ◌*ℤ◌}
+use lib.Signed.{◌≤ℤ◌}
 use Rattle.std.proofs.lemmas.Nat.{pow-add}
 
 -- a block below the next one is below this one, or is this one
