@@ -28,7 +28,7 @@ pub enum Front {
 }
 
 /// The box of a prefix, or its first misfit.
-pub fn front_of(alloc: Global, codes: &Codes, front: &[u32]) -> Result<Front, NoMemory>
+pub(crate) fn front_of(alloc: Global, codes: &Codes, front: &[u32]) -> Result<Front, NoMemory>
     requires known { AreKnown (choices codes.now) }
     requires exist { AreCodesOf (choices codes.now) front.now }
     ensures { IfOk result (IsFrontOf (choices codes.now) front.now) }
@@ -51,7 +51,7 @@ pub fn front_of(alloc: Global, codes: &Codes, front: &[u32]) -> Result<Front, No
 }
 
 /// The box that fixes the first blocks of a prefix.
-pub fn front_side(
+pub(crate) fn front_side(
     alloc: Global,
     codes: &Codes,
     front: &[u32],

@@ -6,7 +6,7 @@ use nogood_store::Nogoods;
 
 /// The first place of the prefix, from a place on, at which its codes so far meet a stored box, and the least tag of such
 /// a box. The codes of the prefix are entered one by one, and left again.
-pub fn hit_from(store: &mut Nogoods, front: &[u32], place: usize) -> Option<(usize, u64)>
+pub(crate) fn hit_from(store: &mut Nogoods, front: &[u32], place: usize) -> Option<(usize, u64)>
     requires prefix { store.old.prefix ≡ take place front.now }
     requires place { place ≤ length front.now }
     requires few { length front.now ≤ 32 }

@@ -184,7 +184,7 @@ fn search_part<B: Bars>(
 }
 
 /// The report on a job whose region has a plan.
-pub fn solve_part<B: Bars>(
+pub(crate) fn solve_part<B: Bars>(
     alloc: Global,
     codes: &Codes,
     tables: &YardTables<'_>,

@@ -24,7 +24,7 @@ use shape_exact::NoMemory;
 use std::alloc::Global;
 
 /// The record of a region whose prefix meets a stored box: it cites the box's tag.
-pub fn take_hit(
+pub(crate) fn take_hit(
     alloc: Global,
     codes: &Codes,
     job: Job,
@@ -68,7 +68,7 @@ fn needs_of(other: Option<u8>) -> Blocks
 
 /// The record of a region whose prefix has a misfit: a clash needs the literal of the one other block, and a meeting with
 /// a piece none.
-pub fn take_misfit(
+pub(crate) fn take_misfit(
     alloc: Global,
     codes: &Codes,
     job: Job,
@@ -104,7 +104,7 @@ pub fn take_misfit(
 }
 
 /// The record of a region of one plan, once the plan is taken.
-pub fn take_last<B: Bars>(
+pub(crate) fn take_last<B: Bars>(
     alloc: Global,
     codes: &Codes,
     job: Job,
@@ -145,7 +145,7 @@ pub fn take_last<B: Bars>(
 }
 
 /// The record of a region in which some block has no code: its box is the empty one.
-pub fn take_empty(alloc: Global, codes: &Codes, log: &mut Log) -> Result<Shown, NoMemory>
+pub(crate) fn take_empty(alloc: Global, codes: &Codes, log: &mut Log) -> Result<Shown, NoMemory>
     requires known { AreKnown (choices codes.now) }
     requires empty { (b : ℕ) × (b < blocks (choices codes.now)) × (count (choices codes.now) b ≡ 0) }
     ensures written { IfOk result (λ shown. IsEmptyWritten (choices codes.now) log.old log.new shown) }

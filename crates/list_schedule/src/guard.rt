@@ -58,7 +58,11 @@ fn feasible(alloc: Global, codes: &Codes, list: &[u32]) -> Result<Option<Plan>, 
 }
 
 /// The plan of these codes, where it is a feasible plan of the yard.
-pub fn feasible_plan(alloc: Global, codes: &Codes, list: &[u32]) -> Result<Option<Plan>, NoMemory>
+pub(crate) fn feasible_plan(
+    alloc: Global,
+    codes: &Codes,
+    list: &[u32],
+) -> Result<Option<Plan>, NoMemory>
     ensures { IfOk result (λ o. IfSome o (λ p. IsFeasible (choices codes.now) p)) }
 {
     if !is_plan(codes, list) {
@@ -71,7 +75,7 @@ pub fn feasible_plan(alloc: Global, codes: &Codes, list: &[u32]) -> Result<Optio
 }
 
 /// The plan of these codes, where it is a feasible plan of the region.
-pub fn guarded(
+pub(crate) fn guarded(
     alloc: Global,
     codes: &Codes,
     job: Job,

@@ -45,7 +45,12 @@ fn rank(codes: &Codes, rule: Rule, block: u8) -> u64
 }
 
 /// The blocks from one on, in the order of a rule; blocks of one rank in the order of the yard's file.
-pub fn ordered(alloc: Global, codes: &Codes, first: u8, rule: Rule) -> Result<Vec<u8>, NoMemory> {
+pub(crate) fn ordered(
+    alloc: Global,
+    codes: &Codes,
+    first: u8,
+    rule: Rule,
+) -> Result<Vec<u8>, NoMemory> {
     let mut ranked = Vec::new(alloc);
     for block in first..block_count(codes) {
         let rank = rank(codes, rule, block).saturating_mul(64);
@@ -73,7 +78,7 @@ fn move_one(list: &mut Vec<u8>, draws: &mut Draws) -> Result<(), NoMemory> {
 }
 
 /// The order after one to three moves.
-pub fn moved(alloc: Global, order: &[u8], draws: &mut Draws) -> Result<Vec<u8>, NoMemory> {
+pub(crate) fn moved(alloc: Global, order: &[u8], draws: &mut Draws) -> Result<Vec<u8>, NoMemory> {
     let mut list = order.to_vec(alloc)?;
     for _ in 0..1 + draws.below(3) {
         move_one(&mut list, draws)?;

@@ -73,7 +73,7 @@ fn place(frontier: &mut Frontier<'_>, made: &mut Schedule, block: u8, code: u32)
 }
 
 /// Takes all blocks off again.
-pub fn clear(frontier: &mut Frontier<'_>) {
+pub(crate) fn clear(frontier: &mut Frontier<'_>) {
     while frontier.len() > 0 {
         frontier.pop();
     }
@@ -81,7 +81,7 @@ pub fn clear(frontier: &mut Frontier<'_>) {
 
 /// The schedule that puts the first blocks at these codes, and then each block of the order at its first free code of
 /// least cost. None where a block has none, or all would cost more than `most`.
-pub fn put_all(
+pub(crate) fn put_all(
     frontier: &mut Frontier<'_>,
     front: &[u32],
     order: &[u8],

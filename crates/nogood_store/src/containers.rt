@@ -8,7 +8,11 @@ use code_table::Codes;
 use plan_rule::PlanBox;
 
 /// The first box that contains this one; None exactly where none does.
-pub fn first_container<'a>(codes: &Codes, list: &'a [Nogood], part: &PlanBox) -> Option<&'a Nogood>
+pub(crate) fn first_container<'a>(
+    codes: &Codes,
+    list: &'a [Nogood],
+    part: &PlanBox,
+) -> Option<&'a Nogood>
     ensures { MatchOption result
         (NoneContains (choices codes.now) list.now part.now (length list.now))
         (λ n. IsFirstContainer (choices codes.now) list.now part.now n.now) }

@@ -21,7 +21,7 @@ fn lesser(least: Option<u64>, tag: u64) -> u64
 }
 
 /// The least tag so far, with the boxes of one chain that are matched once this code of the next block is entered.
-pub fn least_on(
+pub(crate) fn least_on(
     chains: &Chains,
     list: &[Nogood],
     chain: u32,

@@ -12,7 +12,7 @@ use crate::waits::waits_on;
 use watch_chains::Chains;
 
 /// Undoes the open moves down to a number of them.
-pub fn rewind(chains: &mut Chains, mark: u32)
+pub(crate) fn rewind(chains: &mut Chains, mark: u32)
     requires { mark ≤ length chains.old.past }
     ensures back { chains.new.lists ∷ chains.new.past
         ≡ drop (length chains.old.past - mark) (chains.old.lists ∷ chains.old.past) }
@@ -27,7 +27,7 @@ pub fn rewind(chains: &mut Chains, mark: u32)
 }
 
 /// Makes the steps, one after another.
-pub fn advance(chains: &mut Chains, steps: &[Step])
+pub(crate) fn advance(chains: &mut Chains, steps: &[Step])
     requires spare { length steps.now ≤ chains.old.spare_moves }
     requires entries { All (λ s. s.entry < chains.old.entries) steps.now }
     requires chains_in { All (λ s. s.chain < length chains.old.lists) steps.now }
@@ -42,7 +42,13 @@ pub fn advance(chains: &mut Chains, steps: &[Step])
 }
 
 /// Puts last in the trail the steps of the next block's chain for a code: each of its boxes that no longer waits there.
-pub fn gather(chains: &Chains, list: &[Nogood], codes: &[u32], code: u32, trail: &mut Vec<Step>)
+pub(crate) fn gather(
+    chains: &Chains,
+    list: &[Nogood],
+    codes: &[u32],
+    code: u32,
+    trail: &mut Vec<Step>,
+)
     requires few { length codes.now < 32 }
     requires stand { AreFor list.now codes.now chains.now.lists }
     requires entries { chains.now.entries ≡ length list.now }

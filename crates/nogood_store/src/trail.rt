@@ -36,7 +36,13 @@ impl Trail {
 }
 
 /// Enters the code of the next block: each box of its chain moves on, unless it still waits there.
-pub fn enter(chains: &mut Chains, list: &[Nogood], trail: &mut Trail, codes: &[u32], code: u32)
+pub(crate) fn enter(
+    chains: &mut Chains,
+    list: &[Nogood],
+    trail: &mut Trail,
+    codes: &[u32],
+    code: u32,
+)
     requires few { length codes.now < 32 }
     requires entered { AreEntered list.now codes.now trail.old.marks trail.old.steps.items chains.old }
     requires room { literals_of list.now ≤ vec_capacity trail.old.steps }
@@ -50,7 +56,7 @@ pub fn enter(chains: &mut Chains, list: &[Nogood], trail: &mut Trail, codes: &[u
 }
 
 /// Enters codes with a box more, which stands last: the other boxes make the steps that are known.
-pub fn enter_again(
+pub(crate) fn enter_again(
     chains: &mut Chains,
     list: &[Nogood],
     trail: &mut Trail,

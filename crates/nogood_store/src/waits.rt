@@ -13,7 +13,7 @@ fn stops(l: Literal, block: u8, code: u32) -> bool
 
 /// The block of the first literal that is not matched once this code of the next block is entered too; 32 where all are
 /// matched. All literals on earlier blocks are matched.
-pub fn waits_on(literals: &[Literal], codes: &[u32], code: u32) -> u8
+pub(crate) fn waits_on(literals: &[Literal], codes: &[u32], code: u32) -> u8
     requires rising { Rising 0 literals.now }
     requires few { length codes.now < 32 }
     requires matched { (waits codes.now literals.now ≡ length codes.now) ⊎ (waits codes.now literals.now ≡ 32) }
@@ -30,7 +30,7 @@ pub fn waits_on(literals: &[Literal], codes: &[u32], code: u32) -> u8
 }
 
 /// The block of the first literal; 32 where there is none.
-pub fn first_block(literals: &[Literal]) -> u32
+pub(crate) fn first_block(literals: &[Literal]) -> u32
     ensures { result ≡ waits [] literals.now }
 {
     match literals.first() {

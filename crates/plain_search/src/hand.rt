@@ -12,7 +12,7 @@ pub struct Hand {
 }
 
 /// Whether a plan of this total would be better than the plan in hand, if there is one.
-pub fn can_beat(hand: &Option<Hand>, sum: u32) -> bool
+pub(crate) fn can_beat(hand: &Option<Hand>, sum: u32) -> bool
     ensures { result ≡ can_beat hand.now sum }
 {
     match hand {

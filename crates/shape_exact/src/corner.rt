@@ -5,7 +5,7 @@ ghost use Rattle.shape_exact.specs.Shapes.{least, greatest};
 use crate::Point;
 
 /// The least x and the least y of the points.
-pub fn lower_corner(points: &[Point]) -> Point
+pub(crate) fn lower_corner(points: &[Point]) -> Point
     requires { 1 ≤ length points.now }
     ensures x { result.x ≡ least (λ p. p.x) points.now }
     ensures y { result.y ≡ least (λ p. p.y) points.now }
@@ -21,7 +21,7 @@ pub fn lower_corner(points: &[Point]) -> Point
 }
 
 /// The greatest x and the greatest y of the points.
-pub fn upper_corner(points: &[Point]) -> Point
+pub(crate) fn upper_corner(points: &[Point]) -> Point
     requires { 1 ≤ length points.now }
     ensures x { result.x ≡ greatest (λ p. p.x) points.now }
     ensures y { result.y ≡ greatest (λ p. p.y) points.now }

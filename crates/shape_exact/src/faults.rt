@@ -16,7 +16,7 @@ fn is_near(p: Point) -> bool
 }
 
 /// The first vertex out of range.
-pub fn first_far(points: &[Point]) -> Option<u8>
+pub(crate) fn first_far(points: &[Point]) -> Option<u8>
     requires { length points.now ≤ 16 }
     ensures { result ≡ first_far points.now }
 {
@@ -50,7 +50,7 @@ fn first_equal_to(points: &[Point], i: usize) -> Option<u8>
 }
 
 /// The first equal pair i < j, by i and then by j.
-pub fn first_equal(points: &[Point]) -> Option<(u8, u8)>
+pub(crate) fn first_equal(points: &[Point]) -> Option<(u8, u8)>
     requires { length points.now ≤ 16 }
     ensures { result ≡ first_equal points.now }
 {
@@ -115,7 +115,7 @@ fn sign_of_edge(points: &[Point], e: usize) -> Option<bool>
 }
 
 /// The sign of the first cross product that is not 0, by edge and then by vertex.
-pub fn inner_sign(points: &[Point]) -> Option<bool>
+pub(crate) fn inner_sign(points: &[Point]) -> Option<bool>
     requires { All (IsWithin 1000) points.now }
     ensures { result ≡ inner_sign points.now }
 {
@@ -150,7 +150,7 @@ fn other_of_edge(points: &[Point], left: bool, e: usize) -> Option<u8>
 }
 
 /// The first edge and vertex whose cross product has the other sign.
-pub fn first_other(points: &[Point], left: bool) -> Option<(u8, u8)>
+pub(crate) fn first_other(points: &[Point], left: bool) -> Option<(u8, u8)>
     requires few { length points.now ≤ 16 }
     requires near { All (IsWithin 1000) points.now }
     ensures { result ≡ first_other left points.now }

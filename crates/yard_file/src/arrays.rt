@@ -48,7 +48,7 @@ fn tables_at(table: &Table, key: Key) -> Result<&[Value], YardFault>
 
 /// The tables of the plates, 1 to 8.
 #[tactic(auto, unfolding(crate::specs::Arrays::plate_tables), using(crate::proofs::ItemLaws::count_items))]
-pub fn plate_tables(table: &Table) -> Result<&[Value], YardFault>
+pub(crate) fn plate_tables(table: &Table) -> Result<&[Value], YardFault>
     ensures value { viewed (λ s. items_view s.now) result ≡ plate_tables (table_view table.now) }
     ensures few { IfOk result (λ s. length s.now ≤ 8) }
 {
@@ -64,7 +64,7 @@ pub fn plate_tables(table: &Table) -> Result<&[Value], YardFault>
 
 /// The tables of the blocks, 1 to 32.
 #[tactic(auto, unfolding(crate::specs::Arrays::block_tables), using(crate::proofs::ItemLaws::count_items))]
-pub fn block_tables(table: &Table) -> Result<&[Value], YardFault>
+pub(crate) fn block_tables(table: &Table) -> Result<&[Value], YardFault>
     ensures value { viewed (λ s. items_view s.now) result ≡ block_tables (table_view table.now) }
     ensures few { IfOk result (λ s. length s.now ≤ 32) }
 {
@@ -80,7 +80,7 @@ pub fn block_tables(table: &Table) -> Result<&[Value], YardFault>
 
 /// The tables of the fixed pieces, at most 48.
 #[tactic(auto, unfolding(crate::specs::Arrays::piece_tables), using(crate::proofs::ItemLaws::count_items))]
-pub fn piece_tables(table: &Table) -> Result<&[Value], YardFault>
+pub(crate) fn piece_tables(table: &Table) -> Result<&[Value], YardFault>
     ensures value { viewed (λ s. items_view s.now) result ≡ piece_tables (table_view table.now) }
     ensures few { IfOk result (λ s. length s.now ≤ 48) }
 {

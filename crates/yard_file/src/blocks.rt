@@ -56,7 +56,7 @@ fn block_of(value: &Value, version: u8, i: u8, earlier: &[Block]) -> Result<Bloc
 }
 
 /// The yard with the blocks of the values in a file of this version.
-pub fn add_blocks(mut yard: Yard, items: &[Value], version: u8) -> Result<Yard, YardFault>
+pub(crate) fn add_blocks(mut yard: Yard, items: &[Value], version: u8) -> Result<Yard, YardFault>
     requires few { length items.now ≤ 32 }
     requires none { yard.blocks ≡ [] }
     ensures blocks { viewed (λ y. y.blocks) result ≡ blocks_from version 0 [] (items_view items.now) }

@@ -43,7 +43,7 @@ pub fn pieces_clash(one: &Fixed, two: &Fixed) -> bool
 }
 
 /// The number of the first of the pieces that clashes with this one.
-pub fn first_clash(pieces: &[Fixed], piece: &Fixed) -> Option<u8>
+pub(crate) fn first_clash(pieces: &[Fixed], piece: &Fixed) -> Option<u8>
     requires few { length pieces.now ≤ 48 }
     requires pieces { All (λ f. (f.x ≤ 400) × (f.y ≤ 400)) pieces.now }
     requires piece { (piece.now.x ≤ 400) × (piece.now.y ≤ 400) }

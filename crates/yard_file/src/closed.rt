@@ -25,7 +25,7 @@ fn read_days(items: &[Value], days: u16, plate: u8) -> Result<DayList, YardFault
 }
 
 /// The closed days of a plate: none where there is no value.
-pub fn closed_of(value: Option<&Value>, days: u16, plate: u8) -> Result<DayList, YardFault>
+pub(crate) fn closed_of(value: Option<&Value>, days: u16, plate: u8) -> Result<DayList, YardFault>
     requires { days ≤ 400 }
     ensures value { result ≡ closed_in days plate (option_map (λ v. view v.now) value.entry) }
     ensures below { IfOk result (λ list. are_days 0 days list ≡ true) }

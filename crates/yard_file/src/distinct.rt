@@ -9,7 +9,7 @@ use shape_exact::DayList;
 use toml::Value;
 
 /// Whether every item is an integer.
-pub fn all_integers(items: &[Value]) -> bool
+pub(crate) fn all_integers(items: &[Value]) -> bool
     ensures { result ≡ all_integers (items_view items.now) }
 {
     for value in items {
@@ -31,7 +31,7 @@ fn number_below(limit: u16, value: &Value) -> Option<u16>
 }
 
 /// The numbers of an array, ascending, or the first item that is not below the limit or equals an earlier one.
-pub fn read_distinct(limit: u16, items: &[Value]) -> Result<DayList, DayFault>
+pub(crate) fn read_distinct(limit: u16, items: &[Value]) -> Result<DayList, DayFault>
     requires { limit ≤ 400 }
     ensures value { result ≡ distinct_from limit 0 [] (items_view items.now) }
     ensures below { IfOk result (λ list. are_days 0 limit list ≡ true) }

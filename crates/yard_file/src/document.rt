@@ -6,7 +6,7 @@ use std::alloc::Global;
 use toml::Table;
 
 /// The table that the bytes spell.
-pub fn document_of(alloc: Global, bytes: &[u8]) -> Result<Table, YardFault>
+pub(crate) fn document_of(alloc: Global, bytes: &[u8]) -> Result<Table, YardFault>
     ensures { IsDocument result (document bytes.now) }
 {
     match toml::table_from_slice(alloc, bytes) {

@@ -106,7 +106,7 @@ fn points_at(value: Option<&Value>, at: At) -> Result<&[Value], YardFault>
 }
 
 /// The footprint of a block.
-pub fn block_shape(value: Option<&Value>, block: u8) -> Result<Shape, YardFault>
+pub(crate) fn block_shape(value: Option<&Value>, block: u8) -> Result<Shape, YardFault>
     ensures { result ≡ block_shape block (option_map (λ v. view v.now) value.entry) }
 {
     match footprint(points_at(value, At::Block(block))?) {
@@ -116,7 +116,7 @@ pub fn block_shape(value: Option<&Value>, block: u8) -> Result<Shape, YardFault>
 }
 
 /// The footprint of a fixed piece before it is turned.
-pub fn piece_shape(value: Option<&Value>, piece: u8) -> Result<Shape, YardFault>
+pub(crate) fn piece_shape(value: Option<&Value>, piece: u8) -> Result<Shape, YardFault>
     ensures { result ≡ piece_shape piece (option_map (λ v. view v.now) value.entry) }
 {
     match footprint(points_at(value, At::Fixed(piece))?) {

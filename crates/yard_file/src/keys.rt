@@ -63,7 +63,7 @@ fn shown_word(key: &str) -> Word
 
 /// The rule that the table has none but these keys.
 #[tactic(auto, unfolding(crate::specs::Keys::known_keys))]
-pub fn known_keys(table: &Table, at: At, keys: &[Key]) -> Result<(), YardFault>
+pub(crate) fn known_keys(table: &Table, at: At, keys: &[Key]) -> Result<(), YardFault>
     ensures { result ≡ known_keys at keys.now (table_view table.now) }
 {
     match least_unknown(table, keys) {
@@ -73,7 +73,7 @@ pub fn known_keys(table: &Table, at: At, keys: &[Key]) -> Result<(), YardFault>
 }
 
 /// The keys of the top table: pieces that stand come with version 2.
-pub fn top_keys(version: u8) -> &'static [Key]
+pub(crate) fn top_keys(version: u8) -> &'static [Key]
     ensures { result.now ≡ top_keys version }
 {
     if version < 2 {
@@ -84,7 +84,7 @@ pub fn top_keys(version: u8) -> &'static [Key]
 }
 
 /// The keys of a block: a cost for being early comes with version 3.
-pub fn block_keys(version: u8) -> &'static [Key]
+pub(crate) fn block_keys(version: u8) -> &'static [Key]
     ensures { result.now ≡ block_keys version }
 {
     if version < 3 {

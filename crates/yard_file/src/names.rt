@@ -61,7 +61,11 @@ fn new_block_name(bytes: &[u8], at: At, earlier: &[Block]) -> Result<Name, YardF
 }
 
 /// The name of a plate after others.
-pub fn plate_name(value: Option<&Value>, at: At, earlier: &[Plate]) -> Result<Name, YardFault>
+pub(crate) fn plate_name(
+    value: Option<&Value>,
+    at: At,
+    earlier: &[Plate],
+) -> Result<Name, YardFault>
     ensures value { result ≡ name_in at (plate_names earlier.now) (option_map (λ v. view v.now) value.entry) }
     ensures new { IfOk result (λ n. has_name (plate_names earlier.now) n ≡ false) }
 {
@@ -75,7 +79,11 @@ pub fn plate_name(value: Option<&Value>, at: At, earlier: &[Plate]) -> Result<Na
 }
 
 /// The name of a block after others.
-pub fn block_name(value: Option<&Value>, at: At, earlier: &[Block]) -> Result<Name, YardFault>
+pub(crate) fn block_name(
+    value: Option<&Value>,
+    at: At,
+    earlier: &[Block],
+) -> Result<Name, YardFault>
     ensures value { result ≡ name_in at (block_names earlier.now) (option_map (λ v. view v.now) value.entry) }
     ensures new { IfOk result (λ n. has_name (block_names earlier.now) n ≡ false) }
 {

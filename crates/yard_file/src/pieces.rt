@@ -164,7 +164,7 @@ fn piece_of(value: &Value, yard: &Yard, i: u8) -> Result<Fixed, YardFault>
 }
 
 /// The yard with the pieces of the values.
-pub fn add_pieces(mut yard: Yard, items: &[Value]) -> Result<Yard, YardFault>
+pub(crate) fn add_pieces(mut yard: Yard, items: &[Value]) -> Result<Yard, YardFault>
     requires few { length items.now ≤ 48 }
     requires none { yard.fixed ≡ [] }
     ensures fixed { viewed (λ y. y.fixed) result ≡ pieces_from yard.days yard.plates 0 [] (items_view items.now) }

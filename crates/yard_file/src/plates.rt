@@ -55,7 +55,7 @@ fn plate_of(value: &Value, days: u16, i: u8, earlier: &[Plate]) -> Result<Plate,
 }
 
 /// The yard with the plates of the values.
-pub fn add_plates(mut yard: Yard, items: &[Value]) -> Result<Yard, YardFault>
+pub(crate) fn add_plates(mut yard: Yard, items: &[Value]) -> Result<Yard, YardFault>
     requires few { length items.now ≤ 8 }
     requires none { yard.plates ≡ [] }
     ensures plates { viewed (λ y. y.plates) result ≡ plates_from yard.days 0 [] (items_view items.now) }

@@ -62,7 +62,7 @@ fn read_turns(items: &[Value], block: u8) -> Result<[bool; 4], YardFault>
 }
 
 /// The turns of a block: that of no quarter turn where there is no value.
-pub fn turns_of(value: Option<&Value>, block: u8) -> Result<[bool; 4], YardFault>
+pub(crate) fn turns_of(value: Option<&Value>, block: u8) -> Result<[bool; 4], YardFault>
     ensures value { result ≡ turns_in block (option_map (λ v. view v.now) value.entry) }
     ensures some { IfOk result (λ turns. list_any (λ t. t) turns ≡ true) }
 {

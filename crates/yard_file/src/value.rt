@@ -15,7 +15,7 @@ fn value_under<'a>(table: &'a Table, word: &str) -> Option<&'a Value>
 }
 
 /// The value under a key.
-pub fn value_at(table: &Table, key: Key) -> Option<&Value>
+pub(crate) fn value_at(table: &Table, key: Key) -> Option<&Value>
     ensures { option_map (λ v. view v.now) result ≡ value_in key (table_view table.now) }
 {
     value_under(table, key.word())
@@ -33,7 +33,7 @@ fn within(at: At, key: Key, low: u16, high: u16, number: i64) -> Result<u16, Yar
 }
 
 /// The integer under a key that has to be there.
-pub fn integer_at(table: &Table, at: At, key: Key) -> Result<i64, YardFault>
+pub(crate) fn integer_at(table: &Table, at: At, key: Key) -> Result<i64, YardFault>
     ensures { result ≡ integer_of at key (value_in key (table_view table.now)) }
 {
     let Some(value) = value_at(table, key) else {
@@ -46,7 +46,13 @@ pub fn integer_at(table: &Table, at: At, key: Key) -> Result<i64, YardFault>
 }
 
 /// A number from `low` to `high` under a key that has to be there.
-pub fn number_at(table: &Table, at: At, key: Key, low: u16, high: u16) -> Result<u16, YardFault>
+pub(crate) fn number_at(
+    table: &Table,
+    at: At,
+    key: Key,
+    low: u16,
+    high: u16,
+) -> Result<u16, YardFault>
     ensures value { result ≡ number_in at key low high (table_view table.now) }
     ensures bounds { IfOk result (λ n. (low ≤ n) × (n ≤ high)) }
 {
@@ -54,7 +60,7 @@ pub fn number_at(table: &Table, at: At, key: Key, low: u16, high: u16) -> Result
 }
 
 /// A number from `low` to `high`, or `absent` where its key is.
-pub fn optional_at(
+pub(crate) fn optional_at(
     table: &Table,
     at: At,
     key: Key,

@@ -63,7 +63,7 @@ fn put_closed(out: &mut String, days: &[u16]) -> Result<(), AllocError>
 
 /// Writes a plate with these closed days.
 #[tactic(auto, unfolding(crate::specs::Texts::plate_text))]
-pub fn put_plate(out: &mut String, number: u8, closed: &[u16]) -> Result<(), AllocError>
+pub(crate) fn put_plate(out: &mut String, number: u8, closed: &[u16]) -> Result<(), AllocError>
     requires { closed.now ≡ spec.closed_days }
     ensures { OnOk result (string_bytes out.new ≡ string_bytes out.old ++ spec.plate_text number) }
 {
@@ -109,7 +109,7 @@ fn put_figures(out: &mut String, block: Drawn) -> Result<(), AllocError>
 
 /// Writes a block.
 #[tactic(auto, unfolding(crate::specs::Texts::block_text))]
-pub fn put_block(out: &mut String, number: u8, block: Drawn) -> Result<(), AllocError>
+pub(crate) fn put_block(out: &mut String, number: u8, block: Drawn) -> Result<(), AllocError>
     requires wide { block.cut ≤ block.width }
     requires high { block.cut ≤ block.height }
     ensures { OnOk result (string_bytes out.new ≡ string_bytes out.old ++ spec.block_text number block) }
