@@ -1,14 +1,16 @@
 -- What a record shows of a box, and of a code of a block beside a side.
-use Rattle.std.specs.Prelude.{◌≡◌, ℕ, ◌<◌, Bool, true, false, List, Option, Some, length, slice_get, All}
+use Rattle.std.specs.Prelude.{◌≡◌, ℕ, ◌+◌, ◌/◌, ◌^◌, ◌<◌, Bool, true, false, List, Option, Some, MatchOption, length, slice_get, All}
 use Rattle.plan_rule.specs.declared.literal.Literal.{Literal}
 use Rattle.plan_rule.specs.Choices.{Choices}
 use Rattle.plan_rule.specs.Plans.{code_of, IsFeasible}
 use Rattle.plan_rule.specs.Boxes.{Holds, Covers, IsBox}
 use Rattle.refutation_log.specs.declared.record.Record.{Record}
 use Rattle.refutation_log.specs.Steps.{IsCovered, result_of}
+use Rattle.branch_kernel.specs.declared.steps.Shown.{Shown}
 use Rattle.branch_kernel.specs.Rivals.{IsRival, IsSettled, Settles}
 use Rattle.branch_kernel.specs.States.{State, relied}
 use Rattle.branch_kernel.specs.Boxes.{kept}
+use Rattle.branch_kernel.specs.Unbeaten.{IsUnbeaten}
 use Rattle.branch_kernel.specs.Clean.{IsClean, StoreSettles, StoreIsClean}
 
 -- a record of the log whose result contains the box; where the store was right at the start, the box's feasible
@@ -47,3 +49,10 @@ IsHandledBy c start s tie side needs cites b code =
 pub record AreCited (c : Choices) (start state : State) (tie : Bool) (cites : List ℕ) : Type 0 where
   pub earlier : All (λ k. k < length state.log) cites
   pub clean : StoreIsClean c start → tie ≡ false → All (IsClean c state.bar state.log) cites
+
+-- of none: no record was written, and the bounds leave the box open; else one record was, and it shows the box
+abbrev pub TellsBounded : Choices → State → State → List Literal → Option Shown → Type 0
+TellsBounded c start now box found =
+    MatchOption found ((now.log ≡ start.log) × IsUnbeaten c box (now.bar / 2 ^ 32))
+    (λ shown. (length now.log ≡ length start.log + 1) × (shown.number + 1 ≡ length now.log)
+    × IsShown c start now shown.tie shown.number box)

@@ -1,14 +1,13 @@
 //! How one code of a block is covered beside a side.
-ghost use Rattle.std.specs.Prelude.{◌≡◌, ◌≢◌, ◌+◌, ◌<◌, ◌≤◌, ℕ, Some, None, true, false, length, IfOk, IfSome, option_to_list};
+ghost use Rattle.std.specs.Prelude.{◌≡◌, ◌+◌, ◌<◌, ℕ, Some, None, true, false, length, IfOk, IfSome};
 ghost use Rattle.plan_rule.specs.Boxes.{exact, with_literal};
 ghost use Rattle.plan_rule.specs.Yards.{choices};
-ghost use Rattle.branch_kernel.specs.States.{State, state};
+ghost use Rattle.branch_kernel.specs.States.{state};
 ghost use Rattle.branch_kernel.specs.Boxes.{IsWholePlan};
 ghost use Rattle.branch_kernel.specs.Marks.{has};
 ghost use Rattle.branch_kernel.specs.Nodes.{IsNode, IsOpenBox};
-ghost use Rattle.branch_kernel.specs.Growth.{Grows, IsReady, Runs};
-ghost use Rattle.branch_kernel.specs.Shows.{IsShown};
-ghost use Rattle.branch_kernel.specs.Covers.{CoversCode, IsCoverage};
+ghost use Rattle.branch_kernel.specs.Growth.{IsReady, Runs};
+ghost use Rattle.branch_kernel.specs.Covers.{CoversByRecord, CoversCode, CoversFrom, IsCoverage};
 
 use crate::{Bars, Blocks, Shown, add_result, beats, clashing, plan_of, take_plan, with};
 use code_table::Codes;
@@ -97,9 +96,8 @@ pub fn cover_by_box(
 ) -> Option<Covered>
     requires child { child.now ≡ with_literal side.now (exact block code) }
     ensures needs { (x : ℕ) → has needs.old x ≡ true → has needs.new x ≡ true }
-    ensures covered { IfSome result (λ r. (start now : State) → now.store ≡ store.now.nogoods → IsReady (choices codes.now) job now
-        → IsNode (choices codes.now) job side.now block code (code + 1) → Grows (choices codes.now) start now
-        → CoversCode (choices codes.now) start now side.now (has needs.new) block code r) }
+    ensures covered { IfSome result
+        (CoversFrom (choices codes.now) job store.now.nogoods side.now (has needs.new) block code) }
 {
     let known = store.at(place)?;
     if known.part.contains(codes, child) {
@@ -165,10 +163,7 @@ pub fn cover_by_record(
     requires number { shown.number < length log.now }
     ensures result { result ≡ record { cite = Some shown.number; tie = shown.tie } }
     ensures needs { (x : ℕ) → has needs.old x ≡ true → has needs.new x ≡ true }
-    ensures covered { (start middle now : State) → now.log ≡ log.now → IsReady (choices codes.now) job middle
-        → IsNode (choices codes.now) job side.now block code (code + 1) → Grows (choices codes.now) start middle
-        → IsShown (choices codes.now) middle now shown.tie shown.number (with_literal side.now (exact block code))
-        → CoversCode (choices codes.now) start now side.now (has needs.new) block code result }
+    ensures covered { CoversByRecord (choices codes.now) job log.now shown side.now (has needs.new) block code result }
 {
     let record = &log.records()[shown.number as usize];
     add_result(codes, record, needs);

@@ -1,5 +1,5 @@
 //! The two steps that end a box: a bound refutes it, or the record of a settled range closes it.
-ghost use Rattle.std.specs.Prelude.{◌≡◌, ◌+◌, ◌<◌, ◌≤◌, ◌/◌, ◌^◌, ℕ, Some, None, length, IfOk, MatchOption, All};
+ghost use Rattle.std.specs.Prelude.{◌≡◌, ◌<◌, ◌≤◌, ◌/◌, Some, None, length, IfOk, All};
 ghost use Rattle.plan_rule.specs.Choices.{blocks};
 ghost use Rattle.plan_rule.specs.Boxes.{IsBox};
 ghost use Rattle.plan_rule.specs.Bounds.{IsFit};
@@ -8,8 +8,7 @@ ghost use Rattle.tardiness_bounds.specs.Numbers.{number};
 ghost use Rattle.branch_kernel.specs.States.{state};
 ghost use Rattle.branch_kernel.specs.Marks.{has};
 ghost use Rattle.branch_kernel.specs.Nodes.{IsPlace};
-ghost use Rattle.branch_kernel.specs.Unbeaten.{IsUnbeaten};
-ghost use Rattle.branch_kernel.specs.Shows.{IsShown};
+ghost use Rattle.branch_kernel.specs.Shows.{TellsBounded};
 ghost use Rattle.branch_kernel.specs.Growth.{IsReady, Runs};
 ghost use Rattle.branch_kernel.specs.Written.{IsClosed};
 
@@ -66,10 +65,8 @@ pub fn bounded<B: Bars>(
     ensures home { B.home bars.new ≡ B.home bars.old }
     ensures runs { Runs (choices codes.now) job (state (B.bar bars.old) best.now log.old store.now)
         (state (B.bar bars.new) best.now log.new store.now) }
-    ensures shown { IfOk result (λ o. MatchOption o ((log.new ≡ log.old) × IsUnbeaten (choices codes.now) part.now (B.bar bars.new / 2 ^ 32))
-        (λ shown. (length log.new ≡ length log.old + 1) × (shown.number + 1 ≡ length log.new)
-        × IsShown (choices codes.now) (state (B.bar bars.old) best.now log.old store.now)
-        (state (B.bar bars.new) best.now log.new store.now) shown.tie shown.number part.now)) }
+    ensures shown { IfOk result (TellsBounded (choices codes.now) (state (B.bar bars.old) best.now log.old store.now)
+        (state (B.bar bars.new) best.now log.new store.now) part.now) }
 {
     let bar = bars.see();
     let fit = fit_of(alloc, codes, tables, part)?;

@@ -9,7 +9,7 @@ use Rattle.plan_rule.specs.Bounds.{IsFit, IsEnergy, Refutes}
 use Rattle.refutation_log.specs.declared.record.Record.{Record}
 use Rattle.refutation_log.specs.declared.record.Record.TheVariants.{Branch, Fit, Energy}
 use Rattle.refutation_log.specs.Logs.{cites_of}
-use Rattle.refutation_log.specs.Steps.{IsAccepted, IsCovered, IsStepAt, result_of}
+use Rattle.refutation_log.specs.Steps.{IsAccepted, IsCovered, IsStep, IsStepAt, result_of}
 use Rattle.log_checker.specs.declared.verdict.Refused.{Refused}
 use Rattle.log_checker.specs.declared.verdict.Refused.TheVariants.{PlanNotFeasible, BadCite, Uncovered, BoundLow, NotEmpty, BadForm, PlanMeetsFixed}
 use Rattle.log_checker.specs.declared.verdict.Verdict.{Verdict}
@@ -44,6 +44,11 @@ HasLowBound c t (Branch b lo hi side cites) n = ⊥
 HasLowBound c t (Fit side) n = IsFit c side (Some n) × (Refutes c t side (Some n) → ⊥)
 HasLowBound c t (Energy from to side) n = IsEnergy c from to side (Some n) × (Refutes c t side (Some n) → ⊥)
 
+-- of none: the bound refutes the side; of a number: it is the bound, and does not
+abbrev pub TellsRefuted : Choices → Option (List ℕ) → List Literal → Option ℕ → Option ℕ → Type 0
+TellsRefuted c t side bound found =
+    MatchOption found (Refutes c t side bound) (λ n. (bound ≡ Some n) × (Refutes c t side (Some n) → ⊥))
+
 -- of a bound that is none: it refutes the side; of a number: it is the bound, and does not
 abbrev pub TellsBound : (Option ℕ → Type 0) → Choices → Option (List ℕ) → List Literal → Option ℕ → Type 0
 TellsBound IsBound c t side found =
@@ -67,6 +72,10 @@ IsFault c t earlier r NotEmpty = ⊥
 IsFault c t earlier r (PlanMeetsFixed b i) = ⊥
 IsFault c t earlier r (BadForm step) = (step ≡ length earlier) × (HasForm c r → ⊥)
 
+-- of none: the record is a step after the earlier ones; else why it is not
+abbrev pub TellsStep : Choices → Option (List ℕ) → List Record → Record → Option Refused → Type 0
+TellsStep c t earlier r found = MatchOption found (IsStep c t earlier r) (IsFault c t earlier r)
+
 -- the plan's first pair of blocks that clash
 abbrev pub HasClash : Choices → Option (List ℕ) → ℕ → ℕ → Type 0
 HasClash c None a b = ⊥
@@ -87,6 +96,10 @@ pub record IsFirstFault (c : Choices) (t : Option (List ℕ)) (log : List Record
   pub at : slice_get log number ≡ Some entry
   pub before : AreStepsBefore c t log number
   pub here : IsFault c t (take number log) entry refused
+
+-- of none: each record is a step; else why the first that is none is not
+abbrev pub TellsSteps : Choices → Option (List ℕ) → List Record → Option Refused → Type 0
+TellsSteps c t log found = MatchOption found (AreStepsBefore c t log (length log)) (IsFirstFault c t log)
 
 -- no two of the plan's codes clash, and the first block and its first piece such that the block's code meets the piece
 abbrev pub HasMeeting : Choices → Option (List ℕ) → ℕ → ℕ → Type 0

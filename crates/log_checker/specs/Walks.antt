@@ -1,5 +1,5 @@
 -- A walk over the codes of a block, by their placements and costs and by spans of codes.
-use Rattle.std.specs.Prelude.{◌≡◌, ℕ, ◌<◌, ◌≤◌, List, Some, slice_get, ◌⊎◌}
+use Rattle.std.specs.Prelude.{◌≡◌, ℕ, ◌<◌, ◌≤◌, List, Option, Some, MatchOption, slice_get, ◌⊎◌}
 use Rattle.std.specs.List.{AllWithin}
 use Rattle.shape_exact.specs.Yards.{PlainYard}
 use Rattle.code_table.specs.declared.placement.Placement.{Placement}
@@ -36,3 +36,7 @@ pub record IsFirstWithout (P : ℕ → Type 0) (lo hi n : ℕ) : Type 0 where
   pub below : n < hi
   pub before : (k : ℕ) → lo ≤ k → k < n → P k
   pub here : P n → ⊥
+
+-- of none: each number of the range has the property; else it is the first without it
+abbrev pub TellsFirstWithout : (ℕ → Type 0) → ℕ → ℕ → Option ℕ → Type 0
+TellsFirstWithout P lo hi found = MatchOption found ((n : ℕ) → lo ≤ n → n < hi → P n) (IsFirstWithout P lo hi)

@@ -1,9 +1,10 @@
 //! When a bound refutes a side.
-ghost use Rattle.std.specs.Prelude.{◌≡◌, ◌↔◌, IsTrue, MatchOption, Some};
+ghost use Rattle.std.specs.Prelude.{◌↔◌, IsTrue};
 ghost use Rattle.plan_rule.specs.Boxes.{IsBox};
 ghost use Rattle.plan_rule.specs.Bounds.{Refutes};
 ghost use Rattle.plan_rule.specs.Yards.{choices};
 ghost use Rattle.log_checker.specs.Claims.{plan_of};
+ghost use Rattle.log_checker.specs.Verdicts.{TellsRefuted};
 
 use crate::judge::Judge;
 use plan_rule::PlanBox;
@@ -29,8 +30,7 @@ pub(crate) fn refutes(judge: &Judge<'_>, side: &PlanBox, bound: Option<u32>) -> 
 /// None where the bound refutes the side, and else the bound.
 pub(crate) fn fault(judge: &Judge<'_>, side: &PlanBox, bound: Option<u32>) -> Option<u32>
     requires side { IsBox (choices judge.now.codes.now) side.now }
-    ensures { MatchOption result (Refutes (choices judge.now.codes.now) (plan_of judge.now.claim) side.now bound)
-        (λ n. (bound ≡ Some n) × (Refutes (choices judge.now.codes.now) (plan_of judge.now.claim) side.now (Some n) → ⊥)) }
+    ensures { TellsRefuted (choices judge.now.codes.now) (plan_of judge.now.claim) side.now bound result }
 {
     if refutes(judge, side, bound) {
         return None;

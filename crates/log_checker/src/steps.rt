@@ -1,12 +1,11 @@
 //! The first record of a log that is no step, and why.
 ghost use Rattle.std.specs.Prelude.{◌<◌, ◌≤◌, ◌^◌, All, IfOk, MatchOption, length};
 ghost use Rattle.plan_rule.specs.Yards.{choices};
-ghost use Rattle.refutation_log.specs.Steps.{IsStep};
 ghost use Rattle.log_checker.specs.Claims.{plan_of};
 ghost use Rattle.log_checker.specs.Forms.{HasForm};
 ghost use Rattle.log_checker.specs.Masks.{AreTold};
 ghost use Rattle.log_checker.specs.PassedCodes.{ArePassed};
-ghost use Rattle.log_checker.specs.Verdicts.{AreStepsBefore, IsFault, IsFirst, IsFirstFault};
+ghost use Rattle.log_checker.specs.Verdicts.{IsFirst, TellsStep, TellsSteps};
 
 use crate::Refused;
 use crate::branch::branch_fault;
@@ -45,9 +44,8 @@ fn fault_of(
     requires kept { ArePassed judge.now.codes.now passed.old }
     requires earlier { All (HasForm (choices judge.now.codes.now)) earlier.now }
     requires few { length earlier.now < 10 ^ 18 }
-    ensures value { IfOk result (λ found. MatchOption found
-        (IsStep (choices judge.now.codes.now) (plan_of judge.now.claim) earlier.now entry.now)
-        (IsFault (choices judge.now.codes.now) (plan_of judge.now.claim) earlier.now entry.now)) }
+    ensures value { IfOk result
+        (TellsStep (choices judge.now.codes.now) (plan_of judge.now.claim) earlier.now entry.now) }
     ensures told { AreTold judge.now.codes.now masks.new }
     ensures kept { ArePassed judge.now.codes.now passed.new }
 {
@@ -91,9 +89,7 @@ pub(crate) fn first_fault(
     records: &[Record],
 ) -> Result<Option<Refused>, NoMemory>
     requires few { length records.now < 10 ^ 18 }
-    ensures { IfOk result (λ found. MatchOption found
-        (AreStepsBefore (choices judge.now.codes.now) (plan_of judge.now.claim) records.now (length records.now))
-        (IsFirstFault (choices judge.now.codes.now) (plan_of judge.now.claim) records.now)) }
+    ensures { IfOk result (TellsSteps (choices judge.now.codes.now) (plan_of judge.now.claim) records.now) }
 {
     let mut masks = Masks::new(alloc)?;
     let mut passed = Passed::new();

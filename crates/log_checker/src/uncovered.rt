@@ -1,11 +1,11 @@
 //! The first code of a range that nothing covers.
-ghost use Rattle.std.specs.Prelude.{ℕ, ◌<◌, ◌≤◌, All, MatchOption, length};
+ghost use Rattle.std.specs.Prelude.{◌<◌, ◌≤◌, All, length};
 ghost use Rattle.std.specs.List.Sorted.{IsNonDecreasingBy};
 ghost use Rattle.plan_rule.specs.Choices.{blocks, count};
 ghost use Rattle.plan_rule.specs.Yards.{choices};
 ghost use Rattle.log_checker.specs.ExactBlocks.{IsStanding};
 ghost use Rattle.log_checker.specs.Masks.{AreTold};
-ghost use Rattle.log_checker.specs.Walks.{IsFirstWithout, IsSettled};
+ghost use Rattle.log_checker.specs.Walks.{IsSettled, TellsFirstWithout};
 
 use crate::block::cost_at;
 use crate::cut::Cut;
@@ -35,9 +35,7 @@ pub(crate) fn first_uncovered(
     requires few { length exacts.now ≤ 32 }
     requires standing { All (IsStanding codes.now) exacts.now }
     requires ascending { IsNonDecreasingBy (λ s. s.lo) spans.now }
-    ensures value { MatchOption result
-        ((code : ℕ) → lo ≤ code → code < hi → IsSettled codes.now block cut exacts.now spans.now code)
-        (λ code. IsFirstWithout (IsSettled codes.now block cut exacts.now spans.now) lo hi code) }
+    ensures value { TellsFirstWithout (IsSettled codes.now block cut exacts.now spans.now) lo hi result }
     ensures told { AreTold codes.now masks.new }
 {
     let start = Walk {
