@@ -75,6 +75,12 @@ Grown P old new = (more : List _) × (new ≡ old ++ more) × All P more
 abbrev pub job_of_report : Report → Job
 job_of_report r = r.job
 
+-- by path number, what the worker has pushed and reported is the job more than before
+abbrev pub HandlesJob : Job → Worker → Worker → Type 0
+HandlesJob job old new =
+    (x : ℕ) → sum_by (has x) new.owner.pushed + times x (map job_of_report new.reports)
+    ≡ has x job + sum_by (has x) old.owner.pushed + times x (map job_of_report old.reports)
+
 -- the report says what it should
 pub record IsSound (c : Choices) (r : Report) : Type 0 where
   pub reached : IsReached c (report_of r)

@@ -1,11 +1,10 @@
 //! What a worker does.
-ghost use Rattle.std.specs.Prelude.{◌≡◌, ◌+◌, ◌<◌, ◌≤◌, ◌⊎◌, ℕ, [], map, true, All, OnOk};
-ghost use Rattle.std.specs.List.{sum_by};
+ghost use Rattle.std.specs.Prelude.{◌≡◌, ◌+◌, ◌<◌, ◌≤◌, ◌⊎◌, true, OnOk};
 ghost use Rattle.plan_rule.specs.Jobs.{IsJob};
 ghost use Rattle.plan_rule.specs.Yards.{choices};
-ghost use Rattle.log_merge.specs.Tiles.{has, times};
+ghost use Rattle.log_merge.specs.Tiles.{has};
 ghost use Rattle.branch_workers.specs.Stock.{IsStocked};
-ghost use Rattle.branch_workers.specs.Work.{IsMade, Grown, IsInHand, IsSound, IsSameOwner, IsStart, job_of_report, IsSamePlace, HasWorked, IsLogged};
+ghost use Rattle.branch_workers.specs.Work.{HandlesJob, IsMade, Grown, IsInHand, IsSound, IsSameOwner, IsStart, IsSamePlace, HasWorked, IsLogged};
 
 use crate::Worker;
 use crate::opening::offer_first;
@@ -81,8 +80,7 @@ fn take_job(
         worker.old.reports worker.new.reports) }
     ensures logged { OnOk result (IsLogged (choices codes.now) worker.new.log worker.new.seat.seen worker.new.reports) }
     ensures stocked { OnOk result (IsStocked (choices codes.now) worker.new.log worker.new.store worker.new.seat.seen) }
-    ensures count { OnOk result ((x : ℕ) → sum_by (has x) worker.new.owner.pushed + times x (map job_of_report worker.new.reports)
-        ≡ has x job + sum_by (has x) worker.old.owner.pushed + times x (map job_of_report worker.old.reports)) }
+    ensures count { OnOk result (HandlesJob job worker.old worker.new) }
 {
     let bar = board.see(&mut worker.seat);
     let part = halve(codes, split, bar, job, &mut worker.owner);
