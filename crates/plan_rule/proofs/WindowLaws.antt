@@ -1,7 +1,8 @@
 -- What a window, a block and its least raise are in a yard.
-use Rattle.std.proofs.Common.{◌≡◌, ℕ, Some, ◌*◌, max, min, List, arith, ◌<◌, sym, ap, ◌∙◌, None, false, Option}
+use Rattle.std.proofs.Common.{◌≡◌, ℕ, Some, ◌*◌, max, min, List, arith, ◌<◌, sym, ap, ◌∙◌, None, false, Option, ◌-◌, refl}
 use Rattle.std.specs.Prelude.{slice_get, is_none, nat_le, ◌&&◌, IfSome}
 use Rattle.std.proofs.lemmas.Option.{same_Some}
+use Rattle.std.specs.Option.{option_map_or}
 use Rattle.shape_exact.specs.Yards.{PlainYard}
 use Rattle.shape_exact.specs.declared.block.Block.{Block}
 use Rattle.shape_exact.specs.Shapes.{cells}
@@ -11,7 +12,7 @@ use Rattle.code_table.specs.declared.placement.Placement.{Placement}
 use Rattle.code_table.specs.Placements.{placements}
 use Rattle.code_table.specs.Costs.{lesser}
 use Rattle.plan_rule.specs.Choices.{blocks, Choices, count, IsCode}
-use Rattle.plan_rule.specs.Yards.{choices, plate_days, taken}
+use Rattle.plan_rule.specs.Yards.{choices, plate_days, taken, taken_by}
 use Rattle.plan_rule.specs.declared.literal.Literal.{Literal}
 use Rattle.plan_rule.specs.Fronts.{HasCodes}
 use Rattle.plan_rule.specs.Bounds.{IsBase, MayTake, IsRaise, presses}
@@ -22,19 +23,34 @@ use Rattle.plan_rule.specs.Boxes.{exact_code, HasExact}
 
 -- the figures of a block
 pub release_is : (yard : PlainYard) (b : ℕ) (block : Block) → slice_get yard.blocks b ≡ Some block → (choices yard).release b ≡ block.release
+unfolding choices
+release_is yard b block at = ap (λ o. option_map_or (λ block. block.release) o 0) at
 
 pub due_is : (yard : PlainYard) (b : ℕ) (block : Block) → slice_get yard.blocks b ≡ Some block → (choices yard).due b ≡ block.due
+unfolding choices
+due_is yard b block at = ap (λ o. option_map_or (λ block. block.due) o 0) at
 
 pub weight_is : (yard : PlainYard) (b : ℕ) (block : Block) → slice_get yard.blocks b ≡ Some block → (choices yard).weight b ≡ block.weight
+unfolding choices
+weight_is yard b block at = ap (λ o. option_map_or (λ block. block.weight) o 0) at
 
 pub work_is : (yard : PlainYard) (b : ℕ) (block : Block) → slice_get yard.blocks b ≡ Some block → (choices yard).work b ≡ block.duration * cells block.shape
+unfolding choices
+work_is yard b block at = ap (λ o. option_map_or (λ block. block.duration * cells block.shape) o 0) at
 
 pub days_are : (yard : PlainYard) → (choices yard).days ≡ yard.days
+unfolding choices
+days_are yard = refl
 
 -- what a code takes
 pub taken_is : (yard : PlainYard) (first last b code : ℕ) (block : Block) (p : Placement) (plate : Plate) → slice_get yard.blocks b ≡ Some block
     → slice_get (placements yard b) code ≡ Some p → slice_get yard.plates p.plate ≡ Some plate
     → (choices yard).taken first last b code ≡ plate_days yard (max first p.start) (min last p.end) plate * cells block.shape
+unfolding choices taken
+taken_is yard first last b code block p plate at is on =
+    ap (λ o. taken_by yard first last o (slice_get (placements yard b) code)) at
+    ∙ ap (taken_by yard first last (Some block)) is
+    ∙ ap (λ o. option_map_or (plate_days yard (max first p.start) (min last p.end)) o 0 * cells block.shape) on
 
 -- where a base is a number, each block has a code
 pub codes_of_base : (c : Choices) (side : List Literal) (k : ℕ) → IsBase c side (Some k) → HasCodes c

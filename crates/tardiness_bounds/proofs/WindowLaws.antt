@@ -1,7 +1,6 @@
 -- The figures of a yard's blocks, and the least raise block by block.
-use Rattle.std.proofs.Common.{◌≡◌, ℕ, ◌+◌, ◌-◌, ◌*◌, ◌<◌, ◌≤◌, max, min, List, length, Option, Some, None, refl, sym, ap, ◌∙◌, subst, inl, inr, arith, true, false}
+use Rattle.std.proofs.Common.{◌≡◌, ℕ, ◌+◌, ◌-◌, ◌*◌, ◌<◌, ◌≤◌, min, List, length, Option, Some, None, refl, sym, ap, ◌∙◌, subst, inl, inr, arith, true, false}
 use Rattle.std.specs.Prelude.{slice_get}
-use Rattle.std.specs.Option.{option_map_or}
 use Rattle.std.proofs.lemmas.Bool.{cases_lt, cond-true, true≢false}
 use Rattle.common_lists.proofs.NumberLaws.{last_or}
 use Rattle.shape_exact.specs.Yards.{PlainYard}
@@ -9,39 +8,17 @@ use Rattle.shape_exact.specs.declared.block.Block.{Block}
 use Rattle.shape_exact.specs.Shapes.{cells}
 use Rattle.common_lists.specs.Each.{sum_below}
 use Rattle.code_table.specs.Costs.{lesser}
-use Rattle.code_table.specs.Placements.{placements}
 use Rattle.plan_rule.specs.declared.literal.Literal.{Literal}
 use Rattle.plan_rule.specs.Choices.{Choices, blocks, count}
 use Rattle.plan_rule.specs.Bounds.{IsLeastOf, IsBase, IsTight, IsRaise, IsEnergy, presses}
-use Rattle.plan_rule.specs.Yards.{capacity, choices, plate_days, standing, taken, taken_by}
-use Rattle.plan_rule.proofs.WindowLaws.{release_is, due_is, weight_is, work_is, days_are, taken_is, same_raise}
+use Rattle.plan_rule.specs.Yards.{capacity, choices, standing}
+use Rattle.plan_rule.proofs.WindowLaws.{due_is, weight_is, work_is, same_raise}
 use Rattle.tardiness_bounds.specs.Windows.{HasRoom, IsLeastRaiseBelow, IsRaiseIn, plate_room, stood_at, work_in}
-
-unfolding choices
-release_is yard b block at = ap (λ o. option_map_or (λ block. block.release) o 0) at
-
-unfolding choices
-due_is yard b block at = ap (λ o. option_map_or (λ block. block.due) o 0) at
-
-unfolding choices
-weight_is yard b block at = ap (λ o. option_map_or (λ block. block.weight) o 0) at
-
-unfolding choices
-work_is yard b block at = ap (λ o. option_map_or (λ block. block.duration * cells block.shape) o 0) at
-
-unfolding choices
-days_are yard = refl
 
 -- the capacity, plate by plate
 pub capacity_is : (yard : PlainYard) (first last : ℕ) → (choices yard).capacity first last ≡ sum_below (length yard.plates) (plate_room yard first last)
 unfolding choices capacity
 capacity_is yard first last = refl
-
-unfolding choices taken
-taken_is yard first last b code block p plate at is on =
-    ap (λ o. taken_by yard first last o (slice_get (placements yard b) code)) at
-    ∙ ap (taken_by yard first last (Some block)) is
-    ∙ ap (λ o. option_map_or (plate_days yard (max first p.start) (min last p.end)) o 0 * cells block.shape) on
 
 -- no raise of a block that presses, among these, is below v
 abbrev pub IsLow : Choices → List Literal → ℕ → ℕ → ℕ → ℕ → Type 0
