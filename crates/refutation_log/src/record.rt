@@ -1,6 +1,6 @@
 //! Records of a log.
 ghost use Rattle.std.specs.Prelude.{◌≡◌, ◌↔◌, [], IsTrue};
-ghost use Rattle.plan_rule.specs.Boxes.{IsWhole};
+ghost use Rattle.plan_rule.specs.Choices.{count};
 ghost use Rattle.plan_rule.specs.Yards.{choices};
 ghost use Rattle.refutation_log.specs.Steps.{result_of};
 
@@ -34,7 +34,7 @@ pub enum Record {
 
 /// Whether a range is all codes of its block, and the side beside it is empty.
 fn is_over_all(codes: &Codes, range: Literal, side: &PlanBox) -> bool
-    ensures { IsTrue result ↔ ((side.now ≡ []) × IsWhole (choices codes.now) range) }
+    ensures { IsTrue result ↔ ((side.now ≡ []) × (range.lo ≡ 0) × (range.hi ≡ count (choices codes.now) range.block)) }
 {
     side.literals().is_empty() && range.is_whole(codes)
 }
