@@ -21,7 +21,7 @@ fn too_many(yard: &Yard, block: u8) -> Option<YardFault>
 }
 
 /// The fault of the first block with too many placements.
-#[tactic(auto, using(shape_exact::proofs::ReadLaws::first_more, shape_exact::proofs::ReadLaws::first_is))]
+#[tactic(auto, using(common_lists::proofs::FirstLaws::first_more, common_lists::proofs::FirstLaws::first_is))]
 pub(crate) fn first_too_many(yard: &Yard) -> Option<YardFault>
     ensures { result ≡ first_too_many yard.now }
 {
