@@ -1,4 +1,3 @@
-mod ExactLaws
 mod SideLaws
 mod WindowLaws
 mod SlotLaws
