@@ -19,6 +19,8 @@ impl Model for Blocks {
     ghost view = { λ s. s.marks };
 
     ghost invariant = { λ s. length s.marks ≡ 32 };
+
+    ghost inverse = { λ marks. record { marks = marks } };
 }
 
 impl Blocks {

@@ -106,8 +106,15 @@ fn front_blocks(part: &PlanBox, plan: &Plan) -> [bool; 32] {
     marks
 }
 
+/// The greatest total that the fit of a box has to exceed without its plans being behind the best. It is below Never where
+/// there is no bar.
+fn strict_total(bar: u64) -> u32 {
+    (bar / 0x1_0000_0000).min(0xffff_fffe) as u32
+}
+
 /// The blocks whose literals the search takes for needed by the fit of the box: those branched on last are left out first,
-/// as long as the fit stays above what is wanted. What sets the box behind the best stays where that is needed.
+/// as long as the fit stays above what is wanted. Where the fit ties with the best, what sets the box behind it stays;
+/// where it is above, the bar alone is asked, so that the record holds wherever those literals stand together.
 fn proposal(
     alloc: Global,
     tables: &YardTables<'_>,
@@ -115,14 +122,12 @@ fn proposal(
     best: &Option<Plan>,
     hints: &Hints,
     part: &PlanBox,
+    tie: bool,
 ) -> Result<Blocks, NoMemory> {
-    let most = hints.wanted();
-    let mut tried = [false; 32];
-    if let Some(plan) = best {
-        if u64::from(most) < bar / 0x1_0000_0000 {
-            tried = front_blocks(part, plan);
-        }
-    }
+    let (most, mut tried) = match best {
+        Some(plan) if tie => (hints.wanted(), front_blocks(part, plan)),
+        _ => (strict_total(bar), [false; 32]),
+    };
     let mut kept = [true; 32];
     for _ in part.literals() {
         let Some(block) = latest(part, hints, &tried) else {
@@ -197,7 +202,7 @@ fn beaten_side(
     let Some(tie) = beats(codes, bar, best, part, fit) else {
         return Ok(None);
     };
-    let marks = proposal(alloc, tables, bar, best, hints, part)?;
+    let marks = proposal(alloc, tables, bar, best, hints, part, tie)?;
     if let Some(beaten) = beaten_part(alloc, codes, tables, bar, best, part, &marks)? {
         return Ok(Some(beaten));
     }
