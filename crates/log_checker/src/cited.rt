@@ -10,7 +10,7 @@ ghost use Rattle.refutation_log.specs.Steps.{result_of};
 ghost use Rattle.log_checker.specs.Forms.{HasForm};
 ghost use Rattle.log_checker.specs.Spans.{AreCited, Has, HaveCode, HoldOthers, HoldsOne, InOne, IsSpanOf, IsWithin};
 
-use crate::form::{count_of, is_whole};
+use crate::form::count_of;
 use crate::span::Span;
 use code_table::Codes;
 use plan_rule::{Literal, PlanBox};
