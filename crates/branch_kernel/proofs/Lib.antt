@@ -14,3 +14,4 @@ pub mod WindowLaws
 pub mod WalkLaws
 pub mod BarLaws
 pub mod MarkLaws
+mod BesideLaws

@@ -2,6 +2,8 @@
 ghost use Rattle.std.specs.Prelude.{◌≡◌, ◌+◌, ◌<◌, ℕ, Some, None, true, false, length, IfOk, IfSome};
 ghost use Rattle.plan_rule.specs.Boxes.{exact, with_literal};
 ghost use Rattle.plan_rule.specs.Yards.{choices};
+ghost use Rattle.tardiness_bounds.specs.declared.beside.Hindrance.TheVariants.{Clash};
+ghost use Rattle.tardiness_bounds.specs.Besides.{TellsBeside};
 ghost use Rattle.branch_kernel.specs.States.{state};
 ghost use Rattle.branch_kernel.specs.Boxes.{IsWholePlan};
 ghost use Rattle.branch_kernel.specs.Marks.{has};
@@ -9,14 +11,14 @@ ghost use Rattle.branch_kernel.specs.Nodes.{IsNode, IsOpenBox};
 ghost use Rattle.branch_kernel.specs.Growth.{IsReady, Runs};
 ghost use Rattle.branch_kernel.specs.Covers.{CoversByRecord, CoversCode, CoversFrom, IsCoverage};
 
-use crate::{Bars, Blocks, Shown, add_result, beats, clashing, plan_of, take_plan, with};
+use crate::{Bars, Blocks, Shown, add_result, beats, plan_of, take_plan, with};
 use code_table::Codes;
 use nogood_store::Nogoods;
-use plan_rule::{Job, Literal, Plan, PlanBox, meets};
+use plan_rule::{Job, Literal, Plan, PlanBox};
 use refutation_log::Log;
 use shape_exact::NoMemory;
 use std::alloc::Global;
-use tardiness_bounds::base;
+use tardiness_bounds::{Beside, Hindrance, base};
 
 /// How a code is covered: by which record, if one is needed, and whether by a tie with the best plan so far.
 #[derive(Clone, Copy, Drop)]
@@ -32,9 +34,20 @@ pub enum Coverage {
     Open(PlanBox),
 }
 
+/// Marks the block whose literal hinders a code, if it is one.
+fn mark(hindrance: Hindrance, needs: &mut Blocks)
+    ensures keeps { (x : ℕ) → has needs.old x ≡ true → has needs.new x ≡ true }
+    ensures marked { (a : ℕ) → hindrance ≡ Clash a → a < 32 → has needs.new a ≡ true }
+{
+    match hindrance {
+        Hindrance::Clash(other) => needs.add(other),
+        Hindrance::Piece => {}
+    }
+}
+
 /// Covers one code of a block beside a side, where no search is needed for it: it clashes with an exact code of the
-/// side, it meets a piece, or the base beats the side with the code. Marks the blocks whose literals are needed for that.
-/// Else answers the side with the code.
+/// side, it meets a piece, or the base beats the side with the code. The caller tells what hinders it, if anything does.
+/// Marks the blocks whose literals are needed. Else answers the side with the code.
 pub fn cover<B: Bars>(
     alloc: Global,
     codes: &Codes,
@@ -46,11 +59,13 @@ pub fn cover<B: Bars>(
     side: &PlanBox,
     block: u8,
     code: u32,
+    beside: Beside,
     needs: &mut Blocks,
 ) -> Result<Coverage, NoMemory>
     requires served { B.yard bars.old ≡ codes.now }
     requires ready { IsReady (choices codes.now) job (state (B.bar bars.old) best.now log.now store.now) }
     requires node { IsNode (choices codes.now) job side.now block code (code + 1) }
+    requires beside { TellsBeside (choices codes.now) side.now block code beside }
     ensures served { B.yard bars.new ≡ codes.now }
     ensures home { B.home bars.new ≡ B.home bars.old }
     ensures runs { Runs (choices codes.now) job (state (B.bar bars.old) best.now log.now store.now)
@@ -59,14 +74,8 @@ pub fn cover<B: Bars>(
     ensures covered { IfOk result (IsCoverage (choices codes.now) job (state (B.bar bars.old) best.now log.now store.now)
         (state (B.bar bars.new) best.now log.now store.now) side.now (has needs.new) block code) }
 {
-    if let Some(other) = clashing(codes, side, block, code) {
-        needs.add(other);
-        return Ok(Coverage::Done(Covered {
-            cite: None,
-            tie: false,
-        }));
-    }
-    if let Some(_piece) = meets(codes, block, code) {
+    if let Some(hindrance) = beside.hindrance {
+        mark(hindrance, needs);
         return Ok(Coverage::Done(Covered {
             cite: None,
             tie: false,

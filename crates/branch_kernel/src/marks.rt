@@ -38,6 +38,13 @@ impl Blocks {
         usize::from(block) < 32 && self.marks[usize::from(block)]
     }
 
+    /// One mark for each of 32 blocks: whether it is in the set.
+    pub fn marks(&self) -> &[bool; 32]
+        ensures { result.now ≡ self.now }
+    {
+        &self.marks
+    }
+
     /// Adds the block, where it is one of the first 32.
     pub fn add(&mut self, block: u8)
         ensures keeps { (x : ℕ) → has self.old x ≡ true → has self.new x ≡ true }

@@ -79,9 +79,9 @@ pub fn write_branch(
 const MOST_BOXES: u32 = 65_536;
 
 /// A stored box has no more literals: one of more is seldom met again.
-const MOST_LITERALS: usize = 5;
+const MOST_LITERALS: usize = 4;
 
-/// Stores the box of a record with its number, where no tie was used, the box has at most five literals and fewer than
+/// Stores the box of a record with its number, where no tie was used, the box has at most four literals and fewer than
 /// 65,536 boxes stand. A refused growth is passed over: the box is then not found again.
 pub fn keep_box(store: &mut Nogoods, part: PlanBox, shown: Shown)
     requires { AreAmong 32 part }

@@ -1,3 +1,4 @@
 pub mod CycleLaws
 pub mod FitLaws
 pub mod FloorLaws
+pub mod ViewLaws

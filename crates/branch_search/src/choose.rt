@@ -14,23 +14,6 @@ use shape_exact::NoMemory;
 use std::alloc::Global;
 use tardiness_bounds::{Bound, Frontier, YardTables, base};
 
-/// The exact literals of a box as a frontier.
-pub(crate) fn front_of<'a>(
-    alloc: Global,
-    tables: &'a YardTables<'a>,
-    part: &PlanBox,
-) -> Result<Frontier<'a>, NoMemory>
-    ensures { IfOk result (λ front. front.yard ≡ tables.now.yard) }
-{
-    let mut front = Frontier::new(alloc, tables)?;
-    for l in part.literals() {
-        if l.is_exact(l.block, l.lo) && front.can_push(l.block, l.lo) {
-            front.push(l.block, l.lo);
-        }
-    }
-    Ok(front)
-}
-
 /// The greatest total that is still wanted in a box: the bar's, or less by one where its plans are behind the best.
 pub(crate) fn wanted(codes: &Codes, bar: u64, best: &Option<Plan>, part: &PlanBox) -> u32
     requires held { IsHeld (choices codes.now) bar best.now }
@@ -196,6 +179,6 @@ pub(crate) fn choose(
     ensures block { IfOk result (λ block. block < blocks (choices codes.now)) }
     ensures open { IfOk result (λ block. exact_code part.now block ≡ None) }
 {
-    let front = front_of(alloc, tables, part)?;
+    let front = Frontier::of(alloc, tables, part)?;
     Ok(fewest(codes, &front, part, hints, hints.wanted(), first))
 }

@@ -11,6 +11,7 @@ ghost use Rattle.branch_kernel.specs.Unbeaten.{IsAskedSide};
 ghost use Rattle.branch_kernel.specs.Growth.{IsReady, Runs};
 ghost use Rattle.branch_kernel.specs.Shows.{AreCited, IsHandledBy, IsShown};
 ghost use Rattle.branch_kernel.specs.Covers.{CoversCode};
+ghost use Rattle.branch_search.specs.Views.{IsView};
 
 use crate::Hints;
 use crate::choose::choose;
@@ -19,6 +20,7 @@ use crate::fits::fitted;
 use crate::open::{first_open, open_or};
 use crate::order::order_of;
 use crate::own::{Settled, cites_of, note, own_code};
+use crate::view::{SideView, view_of};
 use branch_kernel::{
     Bars, Blocks, Coverage, Covered, Shown, add_result, close, cover_by_plan, cover_by_record,
     names, range_on, with, without,
@@ -47,18 +49,21 @@ fn settle<B: Bars>(
     block: u8,
     code: u32,
     needs: &mut Blocks,
+    view: &mut SideView<'_>,
     walk: bool,
 ) -> Result<Settled, NoMemory>
     requires tables { tables.now.yard ≡ codes.now }
     requires served { B.yard bars.old ≡ codes.now }
     requires ready { IsReady (choices codes.now) job (state (B.bar bars.old) best.old log.old store.old) }
     requires node { IsNode (choices codes.now) job side.now block code (code + 1) }
+    requires view { IsView codes.now side.now (has needs.old) block view.old }
     ensures served { B.yard bars.new ≡ codes.now }
     ensures home { B.home bars.new ≡ B.home bars.old }
     ensures runs { Runs (choices codes.now) job (state (B.bar bars.old) best.old log.old store.old)
         (state (B.bar bars.new) best.new log.new store.new) }
     ensures prefix { store.new.prefix ≡ store.old.prefix }
     ensures needs { (x : ℕ) → has needs.old x ≡ true → has needs.new x ≡ true }
+    ensures view { IsView codes.now side.now (has needs.new) block view.new }
     ensures covered { IfOk result (λ r. CoversCode (choices codes.now) (state (B.bar bars.old) best.old log.old store.old)
         (state (B.bar bars.new) best.new log.new store.new) side.now (has needs.new) block code r.covered) }
     ensures jumped { IfOk result (λ r. r.jumps ≡ true → (k : ℕ) → r.covered.cite ≡ Some k → (k + 1 ≡ length log.new)
@@ -66,7 +71,7 @@ fn settle<B: Bars>(
         (state (B.bar bars.new) best.new log.new store.new) r.covered.tie k side.now) }
 {
     let child = match cover_known(
-        alloc, codes, job, bars, best, log, store, hints, side, block, code, needs,
+        alloc, codes, job, bars, best, log, store, hints, side, block, code, needs, view,
     )? {
         Coverage::Done(covered) => {
             return Ok(Settled {
@@ -127,7 +132,8 @@ fn divide<B: Bars>(
         (node_box (choices codes.now) side.now range.block range.lo range.hi)) }
 {
     hints.note_rank(range.block, side.literals().len());
-    let order = order_of(alloc, codes, tables, hints, side, range)?;
+    let mut view = view_of(alloc, &*tables, side)?;
+    let order = order_of(alloc, codes, &view.front, hints, range)?;
     let mut cites = Vec::new(alloc);
     let mut needs = Blocks::none();
     let mut tie = false;
@@ -148,6 +154,7 @@ fn divide<B: Bars>(
             range.block,
             code,
             &mut needs,
+            &mut view,
             false,
         )?;
         let covered = settled.covered;
@@ -268,18 +275,21 @@ fn settle_range<B: Bars>(
     side: &PlanBox,
     range: Literal,
     needs: &mut Blocks,
+    view: &mut SideView<'_>,
 ) -> Result<Covered, NoMemory>
     requires tables { tables.now.yard ≡ codes.now }
     requires served { B.yard bars.old ≡ codes.now }
     requires ready { IsReady (choices codes.now) job (state (B.bar bars.old) best.old log.old store.old) }
     requires node { range.lo < range.hi → IsNode (choices codes.now) job side.now range.block range.lo range.hi }
     requires cut { range.lo + 1 < range.hi → (0 < range.lo) ⊎ (range.hi < count (choices codes.now) range.block) }
+    requires view { IsView codes.now side.now (has needs.old) range.block view.old }
     ensures served { B.yard bars.new ≡ codes.now }
     ensures home { B.home bars.new ≡ B.home bars.old }
     ensures runs { Runs (choices codes.now) job (state (B.bar bars.old) best.old log.old store.old)
         (state (B.bar bars.new) best.new log.new store.new) }
     ensures prefix { store.new.prefix ≡ store.old.prefix }
     ensures needs { (x : ℕ) → has needs.old x ≡ true → has needs.new x ≡ true }
+    ensures view { IsView codes.now side.now (has needs.new) range.block view.new }
     ensures covered { IfOk result (λ r. ((code : ℕ) → range.lo ≤ code → code < range.hi
         → IsHandledBy (choices codes.now) (state (B.bar bars.old) best.old log.old store.old)
         (state (B.bar bars.new) best.new log.new store.new) r.tie side.now (has needs.new) (option_to_list r.cite) range.block code)
@@ -305,6 +315,7 @@ fn settle_range<B: Bars>(
             range.block,
             range.lo,
             needs,
+            view,
             false,
         )?;
         return Ok(settled.covered);
@@ -362,6 +373,7 @@ pub(crate) fn along<B: Bars>(
         );
     };
     let mut needs = Blocks::none();
+    let mut view = view_of(alloc, &*tables, side)?;
     let own = settle(
         alloc,
         codes,
@@ -376,6 +388,7 @@ pub(crate) fn along<B: Bars>(
         range.block,
         code,
         &mut needs,
+        &mut view,
         true,
     )?;
     let upper = Literal {
@@ -384,7 +397,7 @@ pub(crate) fn along<B: Bars>(
         hi: range.hi,
     };
     let above = settle_range(
-        alloc, codes, tables, job, bars, best, log, store, hints, side, upper, &mut needs,
+        alloc, codes, tables, job, bars, best, log, store, hints, side, upper, &mut needs, &mut view,
     )?;
     let lower = Literal {
         block: range.block,
@@ -392,7 +405,7 @@ pub(crate) fn along<B: Bars>(
         hi: code,
     };
     let below = settle_range(
-        alloc, codes, tables, job, bars, best, log, store, hints, side, lower, &mut needs,
+        alloc, codes, tables, job, bars, best, log, store, hints, side, lower, &mut needs, &mut view,
     )?;
     let cites = cites_of(alloc, own.covered.cite, above.cite, below.cite)?;
     let tie = own.covered.tie | above.tie | below.tie;

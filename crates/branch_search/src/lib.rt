@@ -18,6 +18,7 @@ mod order;
 mod own;
 mod pairs;
 mod search;
+mod view;
 
 pub use hints::Hints;
 pub use search::search_range;

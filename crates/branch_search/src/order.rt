@@ -5,12 +5,12 @@ ghost use Rattle.plan_rule.specs.Choices.{blocks};
 ghost use Rattle.plan_rule.specs.Yards.{choices};
 
 use crate::Hints;
-use crate::choose::{front_of, slack_of};
+use crate::choose::slack_of;
 use code_table::Codes;
-use plan_rule::{Literal, PlanBox};
+use plan_rule::Literal;
 use shape_exact::NoMemory;
 use std::alloc::Global;
-use tardiness_bounds::{Frontier, YardTables};
+use tardiness_bounds::Frontier;
 
 /// Codes of a range: first so many that need a box of their own, and then the others.
 #[derive(Drop)]
@@ -68,24 +68,22 @@ fn add_others(list: &mut Vec<u32>, range: Literal) -> Result<(), NoMemory>
     Ok(())
 }
 
-/// Each code of the range: first those that are clear of the exact codes of the side and cost at most the slack of their block,
+/// Each code of the range: first those that are clear of the literals of the frontier and cost at most the slack of their block,
 /// ascending, and then the others, ascending.
 pub(crate) fn order_of(
     alloc: Global,
     codes: &Codes,
-    tables: &YardTables<'_>,
+    front: &Frontier<'_>,
     hints: &Hints,
-    side: &PlanBox,
     range: Literal,
 ) -> Result<Order, NoMemory>
-    requires tables { tables.now.yard ≡ codes.now }
+    requires front { front.now.yard ≡ codes.now }
     requires block { range.block < blocks (choices codes.now) }
     ensures inside { IfOk result (λ order. All (λ code. (range.lo ≤ code) × (code < range.hi)) order.list.items) }
     ensures each { IfOk result (λ order. (code : ℕ) → range.lo ≤ code → code < range.hi → Contains order.list.items code) }
 {
-    let front = front_of(alloc, tables, side)?;
-    let slack = slack_of(codes, &front, hints.wanted(), range.block);
-    let mut list = children_of(alloc, &front, range, slack)?;
+    let slack = slack_of(codes, front, hints.wanted(), range.block);
+    let mut list = children_of(alloc, front, range, slack)?;
     let first = list.len();
     add_others(&mut list, range)?;
     Ok(Order { list, first })

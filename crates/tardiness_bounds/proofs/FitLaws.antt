@@ -114,7 +114,7 @@ clash_at yard f b code p s at clash =
       clash = subst (λ q. PlacementsClash clash.one f.place clash.two q) g (subst (λ q. PlacementsClash clash.one q clash.two clash.q) e clash.clash);
     }
 
-at_clash : (yard : PlainYard) (f : Standing) (b code : ℕ) (p : Placement) → IsStanding yard f → slice_get (placements yard b) code ≡ Some p
+pub at_clash : (yard : PlainYard) (f : Standing) (b code : ℕ) (p : Placement) → IsStanding yard f → slice_get (placements yard b) code ≡ Some p
     → ClashesAt yard f b p → (choices yard).Clash f.block f.code b code
 unfolding choices
 at_clash yard f b code p s at m = record {
@@ -140,7 +140,7 @@ code_meets yard b code i p at m = record {
   meet = subst (λ p. MeetPiece m.block p m.piece) (same_Some m.p p (sym m.p_is ∙ at)) m.meet;
 }
 
-meets_code : (yard : PlainYard) (b code i : ℕ) (p : Placement) → slice_get (placements yard b) code ≡ Some p → MeetsAt yard b p i → (choices yard).Meets b code i
+pub meets_code : (yard : PlainYard) (b code i : ℕ) (p : Placement) → slice_get (placements yard b) code ≡ Some p → MeetsAt yard b p i → (choices yard).Meets b code i
 unfolding choices
 meets_code yard b code i p at m = record {
   block = m.block;

@@ -14,10 +14,11 @@ mod StackLaws
 mod LeftLaws
 mod BestLaws
 mod MarkLaws
-mod SameLaws
+pub mod SameLaws
 mod CheapLaws
 mod PigeonLaws
 mod BoxLaws
 mod StandLaws
 mod WalkLaws
 mod FreeCodesLaws
+mod BesideLaws

@@ -1,6 +1,6 @@
 -- Boxes with the same exact codes have one fit, and the exact literals of a box have the exact codes of the box.
 use Rattle.std.proofs.Common.{◌≡◌, ◌≢◌, ℕ, zero, suc, ◌+◌, ◌<◌, ◌≤◌, List, [], ◌∷◌, ◌++◌, length, get_or, take, Option, Some, None, refl, sym, ap, ◌∙◌, subst, inl, inr, arith, length-append}
-use Rattle.std.specs.Prelude.{slice_get, All, ◌==◌, if◌then◌else◌}
+use Rattle.std.specs.Prelude.{slice_get, All, Contains, ◌==◌, if◌then◌else◌}
 use Rattle.std.proofs.lemmas.Bool.{cases_Bool, eqb-true, eq-eqb, ne_eqb, cond-false, true≢false}
 use Rattle.std.proofs.lemmas.List.{take_more}
 use Rattle.std.proofs.lemmas.Option.{none-some, slice_get-get_or, slice_get_within, get_or_from_slice_get}
@@ -9,16 +9,13 @@ use Rattle.plan_rule.specs.declared.literal.Literal.{Literal}
 use Rattle.shape_exact.specs.Yards.{PlainYard}
 use Rattle.plan_rule.specs.Boxes.{IsAscending, IsBox, IsLiteral, LeavesFree, exact, exact_code}
 use Rattle.plan_rule.specs.Yards.{choices}
+use Rattle.tardiness_bounds.specs.Besides.{HaveSameExacts}
 use Rattle.tardiness_bounds.specs.Stacks.{CanPush, PlainFrontier}
 use Rattle.plan_rule.specs.Bounds.{IsBound, IsFit, IsLeastOf, IsSumOfLeast, MayFit}
 use Rattle.plan_rule.specs.Choices.{Choices, IsCode, blocks}
 use Rattle.plan_rule.proofs.ExactLaws.{in_front, nothing_exact, passed, place-le-block}
 
--- two boxes have the same exact codes
-abbrev pub HaveSameExacts : List Literal → List Literal → Type 0
-HaveSameExacts xs ys = (b : ℕ) → exact_code xs b ≡ exact_code ys b
-
-same_may : (c : Choices) (xs ys : List Literal) → HaveSameExacts xs ys → (b code : ℕ) → MayFit c xs b code → MayFit c ys b code
+pub same_may : (c : Choices) (xs ys : List Literal) → HaveSameExacts xs ys → (b code : ℕ) → MayFit c xs b code → MayFit c ys b code
 same_may c xs ys same b code may = (
   (may.0.0, λ d f. may.0.1 d (same b ∙ f)),
   λ none a d f clash. may.1 (same b ∙ none) a d (same a ∙ f) clash,
@@ -163,3 +160,7 @@ may_push yard box p n l is same h at =
 -- a literal whose end is the next code is of one code
 pub one_code : (l : Literal) → l.hi ≡ l.lo + 1 → l ≡ exact l.block l.lo
 one_code l e = ap (λ h. (let m : Literal = record { block = l.block; lo = l.lo; hi = h } in m)) e
+
+-- they are literals of the box
+pub exacts_inside : (c : Choices) (box exacts : List Literal) (n : ℕ) → AreExacts c box n exacts → All (Contains box) exacts
+exacts_inside c box exacts n h = λ k d within. let (j, below, is) = h.from k d within in let l = get_or exacts k d in (j, slice_get_within box j l is, get_or_from_slice_get box j l l is)

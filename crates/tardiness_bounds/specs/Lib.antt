@@ -17,3 +17,4 @@ pub mod Nexts
 pub mod Stands
 pub mod Walks
 pub mod FreeCodes
+pub mod Besides

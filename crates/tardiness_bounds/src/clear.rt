@@ -30,20 +30,20 @@ fn meets(tables: &YardTables<'_>, i: usize, piece: &Fixed, block: u8, place: Pla
     )
 }
 
-/// Whether a block at a placement meets no piece.
-fn meets_none(tables: &YardTables<'_>, block: u8, place: Placement) -> bool
+/// Whether a block at a placement meets some piece.
+pub(crate) fn meets_some(tables: &YardTables<'_>, block: u8, place: Placement) -> bool
     requires block { block < length tables.now.yard.blocks }
     requires turn { place.turn < 4 }
-    ensures yes { result ≡ true → (i : ℕ) → MeetsAt tables.now.yard block place i → ⊥ }
-    ensures no { result ≡ false → ((i : ℕ) → MeetsAt tables.now.yard block place i → ⊥) → ⊥ }
+    ensures yes { result ≡ true → (i : ℕ) × MeetsAt tables.now.yard block place i }
+    ensures no { result ≡ false → (i : ℕ) → MeetsAt tables.now.yard block place i → ⊥ }
 {
     let yard = tables.codes().yard();
     for (i, piece) in yard.fixed().iter().enumerate() {
         if meets(tables, i, piece, block, place) {
-            return false;
+            return true;
         }
     }
-    true
+    false
 }
 
 /// Whether a block at a placement clashes with none of those that stand.
@@ -80,5 +80,11 @@ pub(crate) fn is_clear(
     ensures yes { result ≡ true → IsClear tables.now.yard list.now block place }
     ensures no { result ≡ false → IsClear tables.now.yard list.now block place → ⊥ }
 {
-    clashes_with_none(tables, list, block, place) && meets_none(tables, block, place)
+    if !clashes_with_none(tables, list, block, place) {
+        return false;
+    }
+    if meets_some(tables, block, place) {
+        return false;
+    }
+    true
 }

@@ -18,12 +18,7 @@ pub fn fit_among(alloc: Global, tables: &YardTables<'_>, part: &PlanBox) -> Resu
     requires { IsBox (choices tables.now.yard) part.now }
     ensures { IfOk result (λ bound. IsFit (choices tables.now.yard) part.now (number bound)) }
 {
-    let mut frontier = Frontier::new(alloc, tables)?;
-    for l in part.literals() {
-        if l.is_exact(l.block, l.lo) {
-            frontier.push(l.block, l.lo);
-        }
-    }
+    let frontier = Frontier::of(alloc, tables, part)?;
     Ok(frontier.bound())
 }
 

@@ -1,9 +1,10 @@
 //! The fit of a box of exact literals that grows and shrinks.
-ghost use Rattle.std.specs.Prelude.{◌≡◌, true, false, ◌<◌, ◌≤◌, ◌+◌, ◌++◌, ◌∷◌, [], All, length, min, take, ◌-◌, IfOk, IfSome};
+ghost use Rattle.std.specs.Prelude.{◌≡◌, true, false, ◌<◌, ◌≤◌, ◌+◌, ◌++◌, ◌∷◌, [], All, Contains, length, min, take, ◌-◌, IfOk, IfSome};
 ghost use Rattle.plan_rule.specs.Bounds.{IsFit, IsLeastOf, MayFit};
-ghost use Rattle.plan_rule.specs.Boxes.{exact, LeavesFree};
+ghost use Rattle.plan_rule.specs.Boxes.{exact, IsBox, LeavesFree};
 ghost use Rattle.plan_rule.specs.Choices.{IsCode, blocks, count};
 ghost use Rattle.plan_rule.specs.Yards.{choices};
+ghost use Rattle.tardiness_bounds.specs.Besides.{HaveSameExacts, TellsBeside};
 ghost use Rattle.tardiness_bounds.specs.Firsts.{IsFirst};
 ghost use Rattle.tardiness_bounds.specs.Nexts.{MayFitUpTo};
 ghost use Rattle.tardiness_bounds.specs.Lefts.{AreLefts, cost_of_left};
@@ -11,6 +12,8 @@ ghost use Rattle.tardiness_bounds.specs.Numbers.{number};
 ghost use Rattle.tardiness_bounds.specs.Stacks.{CanPush};
 ghost use Rattle.tardiness_bounds.specs.Standings.{IsStanding, StandOnce, literals_of};
 
+use crate::beside::{Beside, what_hinders};
+use crate::block::block_at;
 use crate::bound::{Bound, bound_of};
 use crate::clear::is_clear;
 use crate::free_codes::FreeCodes;
@@ -19,8 +22,8 @@ use crate::standing::Standing;
 use crate::tables::YardTables;
 use crate::walk::{next_code, walk_from};
 use arrayvec::ArrayVec;
-use code_table::Codes;
-use plan_rule::block_count;
+use code_table::{Codes, cost_on};
+use plan_rule::{PlanBox, block_count};
 use shape_exact::NoMemory;
 use std::alloc::Global;
 use std::marker::Model;
@@ -138,6 +141,26 @@ impl<'a> Frontier<'a> {
         })
     }
 
+    /// The exact literals of a box.
+    pub fn of(
+        alloc: Global,
+        tables: &'a YardTables<'a>,
+        part: &PlanBox,
+    ) -> Result<Frontier<'a>, NoMemory>
+        requires { IsBox (choices tables.now.yard) part.now }
+        ensures yard { IfOk result (λ frontier. frontier.yard ≡ tables.now.yard) }
+        ensures exacts { IfOk result (λ frontier. HaveSameExacts frontier.literals part.now) }
+        ensures from { IfOk result (λ frontier. All (Contains part.now) frontier.literals) }
+    {
+        let mut frontier = Frontier::new(alloc, tables)?;
+        for l in part.literals() {
+            if l.is_exact(l.block, l.lo) {
+                frontier.push(l.block, l.lo);
+            }
+        }
+        Ok(frontier)
+    }
+
     /// The codes of the yard.
     pub fn codes(&self) -> &Codes
         ensures { result.now ≡ self.now.yard }
@@ -194,6 +217,18 @@ impl<'a> Frontier<'a> {
     {
         let place = self.tables.place(block, code);
         is_clear(self.tables, self.list.as_slice(), block, place)
+    }
+
+    /// What a code of a block without a literal costs, and what hinders it beside the literals, if anything does: a clash with
+    /// one of them, of several the first on a block that is asked for, else the first; or else a piece.
+    pub fn beside(&self, block: u8, code: u32, asked: &[bool; 32]) -> Beside
+        requires { CanPush self.now block code }
+        ensures { TellsBeside (choices self.now.yard) self.now.literals block code result }
+    {
+        let place = self.tables.place(block, code);
+        let cost = cost_on(block_at(self.tables.codes(), block), place.end);
+        let hindrance = what_hinders(self.tables, self.list.as_slice(), block, place, asked);
+        Beside { cost, hindrance }
     }
 
     /// Undoes the last push.

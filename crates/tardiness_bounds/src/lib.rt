@@ -7,6 +7,7 @@
 
 mod apart;
 mod base_of;
+mod beside;
 mod best;
 mod block;
 mod bound;
@@ -34,6 +35,7 @@ mod window;
 mod witness;
 
 pub use base_of::base;
+pub use beside::{Beside, Hindrance};
 pub use best::best_window;
 pub use bound::Bound;
 pub use energy_of::energy;

@@ -1,4 +1,4 @@
-use Rattle.std.proofs.Common.{◌≡◌, ◌+◌, ◌*◌, ◌<◌, ◌≤◌, ◌∙◌, refl, sym, ap, subst, inl, inr, arith, length}
+use Rattle.std.proofs.Common.{◌≡◌, ◌+◌, ◌*◌, ◌<◌, ◌≤◌, ◌∙◌, true, refl, sym, ap, subst, inl, inr, arith, length}
 use Rattle.std.specs.Prelude.{option_to_list}
 use Rattle.std.proofs.lemmas.Option.{same_Some}
 use Rattle.common_lists.proofs.ListLaws.{match_some, ok_weaker}
@@ -15,6 +15,8 @@ use Rattle.branch_search.proofs.FitLaws.{asked_low, asked_own}
 use Rattle.branch_kernel.proofs.WalkLaws.{flipped, jump_shown, jumped_node, along_settled, below_all, by_a_part, node_part, open_inexact, part_open, range_fewer, side_inside}
 use Rattle.branch_kernel.proofs.SplitLaws.{split_node, split_inside, shown_inside, split_inexact, child_inexact}
 use Rattle.branch_kernel.proofs.CloseLaws.{closed_done}
+use Rattle.branch_search.specs.Views.{IsView}
+use Rattle.branch_search.proofs.ViewLaws.{view_more}
 use Rattle.branch_search.proofs.CycleLaws.{covers_from, handled_all, handled_next, listed, opened}
 use Rattle.branch_search.proofs.cycle.+refute.Goals as goal
 
@@ -24,6 +26,7 @@ divide-loop-at-init g t c = record {
   home = refl;
   runs = runs_self (choices c.args.codes.now) _ _ c.requires.ready;
   prefix = refl;
+  view = subst (λ y. IsView y c.args.side.now (has c.none-needs.result) c.args.range.block c.in_ok-view.view) c.requires.tables (c.in_ok-view.ensures (has c.none-needs.result) c.args.range.block);
   handled = λ k d low high. absurd (omega arith);
   cited = cited_empty (choices c.args.codes.now) _ _ _ _ c.new-cites.ensures.items;
 }
@@ -46,7 +49,7 @@ divide-settle-requires g t c κs within =
             c.loop-at.invariant.served,
             (
               ready_later (choices c.args.codes.now) _ _ _ c.requires.ready c.loop-at.invariant.runs,
-              node_at (choices c.args.codes.now) _ _ _ _ _ _ c.requires.node in_range.0 in_range.1,
+              (node_at (choices c.args.codes.now) _ _ _ _ _ _ c.requires.node in_range.0 in_range.1, c.loop-at.invariant.view),
             ),
           ),
         ),
@@ -78,6 +81,7 @@ divide-loop-at-preserved g t c =
       home = c.settle.ensures.home ∙ c.loop-at.invariant.home;
       runs = runs_onto (choices c.args.codes.now) _ _ _ _ c.requires.ready c.loop-at.invariant.runs c.settle.ensures.runs;
       prefix = c.settle.ensures.prefix ∙ c.loop-at.invariant.prefix;
+      view = c.settle.ensures.view;
       handled = handled_next (choices c.args.codes.now) _ _ _ _ _ _ _ _ _ _ _ _ _ _ c.in_ok-order.order.list.items c.requires.ready.fits c.loop-at.invariant.runs.grows c.settle.ensures.runs.grows c.in_ok-note.ensures
           c.settle.ensures.needs below c.index-code.ensures c.loop-at.invariant.handled handled;
       cited = cited_once_more (choices c.args.codes.now) _ _ _ _ _ _ _ _ c.requires.ready.fits c.loop-at.invariant.runs.grows c.settle.ensures.runs.grows c.in_ok-note.ensures
@@ -273,7 +277,10 @@ along-settle-requires g t c κs within =
             c.fitted.ensures.served,
             (
               ready_later (choices c.args.codes.now) _ _ _ c.requires.ready c.fitted.ensures.runs,
-              node_at (choices c.args.codes.now) _ _ _ _ _ _ c.requires.node c.in-Some-own_code.ensures.0 c.in-Some-own_code.ensures.1,
+              (
+                node_at (choices c.args.codes.now) _ _ _ _ _ _ c.requires.node c.in-Some-own_code.ensures.0 c.in-Some-own_code.ensures.1,
+                subst (λ y. IsView y c.args.side.now (has c.none-needs.result) c.args.range.block c.in_ok-view.view) c.requires.tables (c.in_ok-view.ensures (has c.none-needs.result) c.args.range.block),
+              ),
             ),
           ),
         ),
@@ -294,7 +301,7 @@ along-settle_range-requires g t c κs within =
             c.settle.ensures.served,
             (
               ready_later (choices c.args.codes.now) _ _ _ c.requires.ready (runs_onto (choices c.args.codes.now) _ _ _ _ c.requires.ready c.fitted.ensures.runs c.settle.ensures.runs),
-              ((λ some. node_part (choices c.args.codes.now) _ _ _ _ _ _ _ c.requires.node (omega arith) (omega arith) some), (λ _. inl (omega arith))),
+              ((λ some. node_part (choices c.args.codes.now) _ _ _ _ _ _ _ c.requires.node (omega arith) (omega arith) some), ((λ _. inl (omega arith)), c.settle.ensures.view)),
             ),
           ),
         ),
@@ -322,7 +329,7 @@ along-settle_range-requires-2 g t c κs within =
                   (runs_onto (choices c.args.codes.now) _ _ _ _ c.requires.ready (runs_onto (choices c.args.codes.now) _ _ _ _ c.requires.ready c.fitted.ensures.runs c.settle.ensures.runs) c.settle_range.ensures.runs),
               (
                 (λ some. node_part (choices c.args.codes.now) _ _ _ _ _ _ _ c.requires.node (omega arith) (omega arith) some),
-                (λ _. inr (below_all (choices c.args.codes.now) c.args.job c.args.side.now _ _ _ c.in-Some-own_code.code c.requires.node high)),
+                ((λ _. inr (below_all (choices c.args.codes.now) c.args.job c.args.side.now _ _ _ c.in-Some-own_code.code c.requires.node high)), c.settle_range.ensures.view),
               ),
             ),
           ),
@@ -452,3 +459,22 @@ settle_range-returns-then-range-2-clause-covered g t c = (
       (option_to_list c.in_ok-settled.settled.covered.cite) c.args.range.block) e c.in_ok-settled.ensures.covered.0),
   c.in_ok-settled.ensures.covered.1,
 )
+
+pub divide-returns-in_err-view-clause-runs : goal.divide-returns-in_err-view-clause-runs
+divide-returns-in_err-view-clause-runs g t c = runs_self (choices c.args.codes.now) _ _ c.requires.ready
+
+pub divide-order_of-requires-clause-front : goal.divide-order_of-requires-clause-front
+divide-order_of-requires-clause-front g t c = (c.in_ok-view.ensures (λ x. true) c.args.range.block).yard_is ∙ c.requires.tables
+
+pub settle-returns-in_err-covered-2-clause-view : goal.settle-returns-in_err-covered-2-clause-view
+settle-returns-in_err-covered-2-clause-view g t c =
+    view_more c.args.codes.now c.args.side.now (has c.cover_known.new.needs) (has c.cover_by_plan.new.needs) c.args.block c.cover_known.new.view c.cover_by_plan.ensures.needs c.cover_known.ensures.view
+
+pub settle-returns-in_default-clause-view : goal.settle-returns-in_default-clause-view
+settle-returns-in_default-clause-view g t c =
+    view_more c.args.codes.now c.args.side.now (has c.cover_known.new.needs) (has c.cover_by_plan.new.needs) c.args.block c.cover_known.new.view c.cover_by_plan.ensures.needs c.cover_known.ensures.view
+
+pub settle-returns-clause-view : goal.settle-returns-clause-view
+settle-returns-clause-view g t c =
+    view_more c.args.codes.now c.args.side.now (has c.cover_known.new.needs) (has c.cover_by_record-covered.new.needs) c.args.block c.cover_known.new.view c.cover_by_record-covered.ensures.needs
+    c.cover_known.ensures.view

@@ -6,6 +6,7 @@ use Rattle.branch_kernel.specs.Boxes.{inexact}
 use Rattle.branch_kernel.specs.Marks.{has}
 use Rattle.branch_kernel.specs.Growth.{Runs}
 use Rattle.branch_kernel.specs.Shows.{AreCited, IsHandledBy}
+use Rattle.branch_search.specs.Views.{IsView}
 use Rattle.branch_search.proofs.cycle.+refute.Given as goal
 
 abbrev pub decreases-settle : goal.decreases-settle
@@ -34,6 +35,7 @@ invariant-divide-loop-at g l = record {
   runs : Runs (choices l.codes) l.job (state (g.B.Bars.bar l.initial.bars) l.initial.best l.initial.log l.initial.store)
       (state (g.B.Bars.bar l.bars) l.best l.log l.store);
   prefix : l.store.prefix ≡ l.initial.store.prefix;
+  view : IsView l.codes l.side (has l.needs) l.range.block l.view;
   handled : AllWithin (IsHandledBy (choices l.codes) (state (g.B.Bars.bar l.initial.bars) l.initial.best l.initial.log l.initial.store)
       (state (g.B.Bars.bar l.bars) l.best l.log l.store) l.tie l.side (has l.needs) l.cites.items l.range.block) l.order.list.items 0 l.at;
   cited : AreCited (choices l.codes) (state (g.B.Bars.bar l.initial.bars) l.initial.best l.initial.log l.initial.store)

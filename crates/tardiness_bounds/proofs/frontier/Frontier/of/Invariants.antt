@@ -1,7 +1,7 @@
 use Rattle.std.proofs.Common.{◌≡◌}
 use Rattle.plan_rule.specs.Yards.{choices}
 use Rattle.tardiness_bounds.proofs.SameLaws.{AreExacts}
-use Rattle.tardiness_bounds.proofs.fit_of.fit_among.Given as goal
+use Rattle.tardiness_bounds.proofs.frontier.Frontier.of.Given as goal
 
 -- the exact literals so far were pushed
 abbrev pub invariant-loop-l : goal.invariant-loop-l
