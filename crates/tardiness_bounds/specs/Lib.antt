@@ -8,6 +8,7 @@ pub mod Standings
 pub mod Neighbours
 pub mod Obstacles
 pub mod Rows
+pub mod Lattices
 pub mod Tables
 pub mod Witnesses
 pub mod Lefts

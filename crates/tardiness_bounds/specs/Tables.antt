@@ -8,6 +8,8 @@ use Rattle.code_table.specs.Stretches.{IsStretch}
 use Rattle.tardiness_bounds.specs.declared.tables.SlotList.{SlotList}
 use Rattle.tardiness_bounds.specs.declared.stretches.StretchList.{StretchList}
 use Rattle.tardiness_bounds.specs.declared.slot.Slot.{Slot}
+use Rattle.tardiness_bounds.specs.declared.lattice.Lattice.{Lattice}
+use Rattle.tardiness_bounds.specs.Lattices.{AreLattices}
 use Rattle.tardiness_bounds.specs.Obstacles.{AreObstacles}
 use Rattle.tardiness_bounds.specs.Rows.{AreRows}
 use Rattle.tardiness_bounds.specs.Slots.{AreSlots}
@@ -40,9 +42,11 @@ pub record AreAllStretches (yard : PlainYard) (stretches : List StretchList) : T
   pub one_each : length stretches ≡ length yard.blocks
   pub each : (b : ℕ) (s : StretchList) → slice_get stretches b ≡ Some s → AreStretches yard b s
 
--- the slots and the stretches of each block, all obstacles, and their rows
-pub record AreTables (yard : PlainYard) (slots : List SlotList) (stretches : List StretchList) (obstacles : List Pair) (reach : ℕ) (rows : List (Option (ℤ × ℤ))) : Type 0 where
+-- the slots and the stretches of each block, all lattices, all obstacles, and their rows
+pub record AreTables (yard : PlainYard) (slots : List SlotList) (stretches : List StretchList) (lattices : List Lattice) (obstacles : List Pair)
+    (reach : ℕ) (rows : List (Option (ℤ × ℤ))) : Type 0 where
   pub slots_are : AreAllSlots yard slots
   pub stretches_are : AreAllStretches yard stretches
+  pub lattices_are : AreLattices yard lattices
   pub obstacles_are : AreObstacles yard obstacles
   pub rows_are : AreRows obstacles reach rows

@@ -15,6 +15,7 @@ use crate::bound::{Bound, bound_of};
 use crate::clear::is_clear;
 use crate::free_codes::FreeCodes;
 use crate::left::{Left, add_lefts, first_lefts};
+use crate::scratch::Scratch;
 use crate::standing::Standing;
 use crate::tables::YardTables;
 use crate::walk::{next_code, walk_from};
@@ -25,13 +26,14 @@ use shape_exact::NoMemory;
 use std::alloc::Global;
 use std::marker::Model;
 
-/// Exact literals that were pushed, and what each number of the first of them leaves to each block. Contracts see it as
-/// the yard and the list of the literals, in the order of the pushes.
+/// Exact literals that were pushed, what each number of the first of them leaves to each block, and the lists that its
+/// searches write. Contracts see it as the yard and the list of the literals, in the order of the pushes.
 #[derive(Drop)]
 pub struct Frontier<'a> {
     tables: &'a YardTables<'a>,
     list: ArrayVec<Standing, 32>,
     lefts: Vec<Left>,
+    scratch: Scratch,
 }
 
 impl<'a> Model for Frontier<'a> {
@@ -130,11 +132,13 @@ impl<'a> Frontier<'a> {
         ensures empty { IfOk result (λ frontier. frontier.literals ≡ []) }
     {
         tables.codes().limits();
-        let lefts = first_lefts(alloc, tables)?;
+        let mut scratch = Scratch::new();
+        let lefts = first_lefts(alloc, tables, &mut scratch)?;
         Ok(Frontier {
             tables,
             list: ArrayVec::new(),
             lefts,
+            scratch,
         })
     }
 
@@ -168,6 +172,7 @@ impl<'a> Frontier<'a> {
             new,
             from,
             &mut self.lefts,
+            &mut self.scratch,
         );
     }
 
