@@ -12,6 +12,7 @@ pub mod Lattices
 pub mod Tables
 pub mod Witnesses
 pub mod Lefts
+pub mod KeptTables
 pub mod Stacks
 pub mod BestWindows
 pub mod Nexts

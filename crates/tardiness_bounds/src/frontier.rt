@@ -26,6 +26,9 @@ use shape_exact::NoMemory;
 use std::alloc::Global;
 use std::marker::Model;
 
+/// The room for what is left to 32 blocks by none of them, and again after each of 32 pushes.
+const ROOM: usize = 1056;
+
 /// Exact literals that were pushed, what each number of the first of them leaves to each block, and the lists that its
 /// searches write. Contracts see it as the yard and the list of the literals, in the order of the pushes.
 #[derive(Drop)]
@@ -126,14 +129,14 @@ fn leaves_free(list: &[Standing], block: u8) -> bool
 }
 
 impl<'a> Frontier<'a> {
-    /// No literal.
+    /// No literal. What the tables keep of the empty frontier is copied.
     pub fn new(alloc: Global, tables: &'a YardTables<'a>) -> Result<Frontier<'a>, NoMemory>
         ensures yard { IfOk result (λ frontier. frontier.yard ≡ tables.now.yard) }
         ensures empty { IfOk result (λ frontier. frontier.literals ≡ []) }
     {
         tables.codes().limits();
         let mut scratch = Scratch::new();
-        let lefts = first_lefts(alloc, tables, &mut scratch)?;
+        let lefts = first_lefts(alloc, tables, ROOM, &mut scratch)?;
         Ok(Frontier {
             tables,
             list: ArrayVec::new(),

@@ -69,20 +69,32 @@ fn left_from(
     }
 }
 
-/// What is left to each block where none stands, with room for what each of 32 pushes adds.
+/// What is left to a block where none stands: as the tables keep it, or by a search where they do not.
+fn first_left(tables: &YardTables<'_>, block: u8, scratch: &mut Scratch) -> Left
+    requires { block < length tables.now.yard.blocks }
+    ensures { IsLeft tables.now [] block result }
+{
+    match tables.first_left(block) {
+        Some(left) => left,
+        None => left_from(tables, &[], block, 0, scratch),
+    }
+}
+
+/// What is left to each block where none stands, in a list with so much room.
 pub(crate) fn first_lefts(
     alloc: Global,
     tables: &YardTables<'_>,
+    room: usize,
     scratch: &mut Scratch,
 ) -> Result<Vec<Left>, NoMemory>
     ensures lefts { IfOk result (λ lefts. AreLefts tables.now [] lefts.items 0) }
     ensures len { IfOk result (λ lefts. length lefts.items ≡ length tables.now.yard.blocks) }
-    ensures room { IfOk result (λ lefts. 1056 ≤ vec_capacity lefts) }
+    ensures room { IfOk result (λ lefts. room ≤ vec_capacity lefts) }
 {
     let codes = tables.codes();
-    let mut lefts = Vec::with_capacity(alloc, 1056)?;
+    let mut lefts = Vec::with_capacity(alloc, room)?;
     for block in 0..block_count(codes) {
-        lefts.push(left_from(tables, &[], block, 0, scratch))?;
+        lefts.push(first_left(tables, block, scratch))?;
     }
     Ok(lefts)
 }
