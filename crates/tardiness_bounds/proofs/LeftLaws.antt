@@ -1,6 +1,7 @@
 -- What a block costs at least of what is left to it.
-use Rattle.std.proofs.Common.{◌≡◌, ℕ, ◌<◌, ◌≤◌, List, length, Option, Some, None, arith}
+use Rattle.std.proofs.Common.{◌≡◌, ℕ, ◌+◌, ◌<◌, ◌≤◌, List, [], length, get_or, Option, Some, None, subst, arith}
 use Rattle.std.specs.Prelude.{slice_get, All, IfSome}
+use Rattle.std.proofs.lemmas.Option.{slice_get-get_or, slice_get_within}
 use Rattle.shape_exact.specs.Yards.{PlainYard, IsYard}
 use Rattle.shape_exact.specs.declared.block.Block.{Block}
 use Rattle.plan_rule.specs.declared.literal.Literal.{Literal}
@@ -13,7 +14,7 @@ use Rattle.tardiness_bounds.specs.declared.left.Left.{Left}
 use Rattle.tardiness_bounds.specs.declared.left.Left.TheVariants.{Stands, Free, Never}
 use Rattle.tardiness_bounds.specs.declared.slot.Slot.{Slot}
 use Rattle.tardiness_bounds.specs.declared.standing.Standing.{Standing}
-use Rattle.tardiness_bounds.specs.Lefts.{IsLeft, cost_of_left}
+use Rattle.tardiness_bounds.specs.Lefts.{AreFirstLefts, AreLefts, IsLeft, cost_of_left}
 use Rattle.tardiness_bounds.specs.Tables.{PlainTables}
 use Rattle.tardiness_bounds.specs.Slots.{AreSlots}
 use Rattle.tardiness_bounds.specs.Standings.{StandOnce, IsStanding, literals_of}
@@ -35,3 +36,17 @@ least_few yard box b (Some n) y l ((x, may, is), least) =
     let few = cost-le yard b x y l may.0.0 in
     let e = cost_is yard b x in
     omega arith
+
+-- what is left to each block where none stands, as a list of its own
+pub first_lefts_are : (t : PlainTables) (lefts : List Left) → AreLefts t [] lefts 0 → length lefts ≡ length t.yard.blocks → AreFirstLefts t lefts
+first_lefts_are t lefts are long b x at =
+    let within = slice_get_within lefts b x at in
+    let e : b ≡ 0 + b = omega arith in
+    are.each b x (omega arith) (subst (λ k. slice_get lefts k ≡ Some x) e at)
+
+-- one of them that was read
+pub first_read : (t u : PlainTables) (lefts here : List Left) (b : ℕ) (d : Left) → t ≡ u → here ≡ lefts → AreFirstLefts t lefts → b < length here
+    → IsLeft u [] b (get_or here b d)
+first_read t u lefts here b d same read are within =
+    subst (λ (t : PlainTables). IsLeft t [] b (get_or here b d)) same
+    (are b (get_or here b d) (subst (λ ls. slice_get ls b ≡ Some (get_or here b d)) read (slice_get-get_or here b d within)))

@@ -4,6 +4,7 @@ mod SlotLaws
 mod GapLaws
 mod NearLaws
 mod TableLaws
+mod LatticeLaws
 mod KeptLaws
 mod ClashLaws
 mod RowLaws

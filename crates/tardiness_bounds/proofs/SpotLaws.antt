@@ -1,7 +1,7 @@
 -- The free placements of a slot, turn by turn.
-use Rattle.std.proofs.Common.{◌≡◌, ℕ, ◌+◌, ◌*◌, ◌/◌, ◌<◌, ◌≤◌, List, length, get_or, Bool, true, false, Option, Some, None, pos, Fits, w16, refl, sym, ap, ◌∙◌, subst, inl, inr, arith, add-one}
-use Rattle.std.specs.Prelude.{slice_get, is_some, unwrap_or, ◌↔◌, All, IfNone}
-use Rattle.std.proofs.lemmas.Bool.{cases_lt, cases_order, false≢true}
+use Rattle.std.proofs.Common.{◌≡◌, ℕ, ◌+◌, ◌*◌, ◌<◌, ◌≤◌, List, length, get_or, Bool, true, false, Option, Some, None, pos, refl, sym, ap, ◌∙◌, subst, inl, inr, arith}
+use Rattle.std.specs.Prelude.{slice_get, is_some, unwrap_or, All, IfNone}
+use Rattle.std.proofs.lemmas.Bool.{cases_lt, false≢true}
 use Rattle.std.proofs.lemmas.Option.{same_Some, slice_get-get_or, slice_get_within}
 use Rattle.common_lists.proofs.ListLaws.{element_at, told_true}
 use Rattle.shape_exact.specs.Yards.{PlainYard, IsPlate, IsYard}
@@ -26,9 +26,11 @@ use Rattle.tardiness_bounds.specs.Standings.{IsStanding}
 use Rattle.tardiness_bounds.specs.Witnesses.{AreFull, HasNoPlace, IsFree, IsFreeNear, IsFull, IsFullNear, IsWitness}
 use Rattle.tardiness_bounds.proofs.ClashLaws.{HaveOneSpan, clear_near, near_clear}
 use Rattle.tardiness_bounds.proofs.RowLaws.{HasNoClearFrom}
-use Rattle.tardiness_bounds.specs.Firsts.{IsFrom, IsOnFrom}
-use Rattle.code_table.proofs.CodeLaws.{multiple}
-use Rattle.std.proofs.lemmas.Nat.{mul-le}
+use Rattle.tardiness_bounds.proofs.LatticeLaws.{shape_in}
+use Rattle.tardiness_bounds.specs.Firsts.{IsOnFrom}
+use Rattle.tardiness_bounds.specs.Footprints.{footprint_at}
+use Rattle.tardiness_bounds.specs.Lattices.{IsLatticeAt}
+use Rattle.tardiness_bounds.specs.declared.lattice.Lattice.{Lattice}
 
 -- the plate and the end of a placement in a slot
 pub same_plate : (yard : PlainYard) (block : Block) (s : Slot) (p : Placement) (plate : Plate) → slice_get yard.plates s.plate ≡ Some plate
@@ -46,74 +48,36 @@ same_end yard block s p is placed (start, on) =
     ∙ e.end_is)
 
 -- what is known of a slot in one turn
-pub record IsAtSlot (yard : PlainYard) (b : ℕ) (s : Slot) (turn : ℕ) (plate : Plate) (shape : List Point) (rows columns : ℕ) : Type 0 where
+pub record IsAtSlot (yard : PlainYard) (b : ℕ) (s : Slot) (turn : ℕ) (l : Lattice) : Type 0 where
   pub block : b < length yard.blocks
-  pub plate_is : slice_get yard.plates s.plate ≡ Some plate
-  pub shape_is : (block : Block) → slice_get yard.blocks b ≡ Some block → shape ≡ turned turn block.shape
+  pub turn_is : turn < 4
   pub slot : (block : Block) → slice_get yard.blocks b ≡ Some block → IsSlot yard block s
-  pub rows_are : (k : ℕ) → (k < rows) ↔ (k * plate.pitch + reach_y shape ≤ plate.height)
-  pub columns_are : (k : ℕ) → (k < columns) ↔ (k * plate.pitch + reach_x shape ≤ plate.width)
-
--- rows and columns are in the order of their positions
-scaled : (pitch row j : ℕ) → row < j → 1 ≤ pitch → row * pitch < j * pitch
-scaled pitch row j l some = let m = mul-le (row + 1) pitch j pitch (omega arith) (omega arith) in (let e : (row + 1) * pitch ≡ row * pitch + pitch = add_mul row pitch in omega arith)
-  where
-    add_mul : (row pitch : ℕ) → (row + 1) * pitch ≡ row * pitch + pitch
-    add_mul row pitch = rw add-one (omega arith)
-
-scaled_le : (pitch row j : ℕ) → row ≤ j → row * pitch ≤ j * pitch
-scaled_le pitch row j l = mul-le row pitch j pitch l (omega arith)
-
-pub on_positions : (pitch row column j k : ℕ) → 1 ≤ pitch → IsOnFrom row column j k → IsOnFrom (row * pitch) (column * pitch) (j * pitch) (k * pitch)
-on_positions pitch row column j k some on = elim on [
-  | inl l ↦ inl (scaled pitch row j l some)
-  | inr s ↦ inr (ap (λ r. r * pitch) s.0, scaled_le pitch column k s.1)
-]
-
-pub on_rows : (pitch row column j k : ℕ) → 1 ≤ pitch → IsOnFrom (row * pitch) (column * pitch) (j * pitch) (k * pitch) → IsOnFrom row column j k
-on_rows pitch row column j k some on = elim on [
-  | inl l ↦ elim (cases_lt row j) [ inl less ↦ inl less | inr more ↦ (let m = scaled_le pitch j row more in absurd (omega arith)) ]
-  | inr s ↦ elim (cases_order row j) [
-    | inl e ↦ elim (cases_lt k column) [
-      | inl less ↦ (let m = scaled pitch k column less some in let t = s.1 in absurd (omega arith))
-      | inr more ↦ inr (e, more)
-    ]
-    | inr apart ↦ elim apart [
-      | inl less ↦ inl less
-      | inr more ↦ (let m = scaled pitch j row more some in let t = s.0 in absurd (omega arith))
-    ]
-  ]
-]
-
--- a multiple of the pitch is its row's position
-pub row_of_multiple : (pitch y : ℕ) → 1 ≤ pitch → (j : ℕ) × (y ≡ j * pitch) → y ≡ y / pitch * pitch
-row_of_multiple pitch y some (j, e) = e ∙ ap (λ r. r * pitch) (sym (multiple j pitch y (omega arith) (sym e)))
+  pub at : IsLatticeAt yard s.plate (b * 4 + turn) l
 
 -- a free placement of the turn stands at a row and a column whose position is clear
-pub record StandsAtRow (yard : PlainYard) (near : List Neighbour) (b turn : ℕ) (plate : Plate) (rows columns : ℕ) (p : Placement) : Type 0 where
+pub record StandsAtRow (yard : PlainYard) (near : List Neighbour) (b turn : ℕ) (l : Lattice) : Type 0 where
   pub j : ℕ
   pub k : ℕ
-  pub row : j < rows
-  pub column : k < columns
-  pub y : p.y ≡ j * plate.pitch
-  pub x : p.x ≡ k * plate.pitch
-  pub clear : AreClear (obstacles_of yard (b * 4 + turn) near) (place plate.pitch j k)
+  pub row : j < l.rows
+  pub column : k < l.columns
+  pub clear : AreClear (obstacles_of yard (b * 4 + turn) near) (place l.pitch j k)
 
-pub stands_at_row : (yard : PlainYard) (near : List Neighbour) (b : ℕ) (s : Slot) (turn : ℕ) (plate : Plate) (shape : List Point) (rows columns : ℕ)
-    → IsAtSlot yard b s turn plate shape rows columns → (p : Placement) → p.turn ≡ turn → IsFreeNear yard near b s p
-    → StandsAtRow yard near b turn plate rows columns p
-stands_at_row yard near b s turn plate shape rows columns h p t free =
+stands_at_row : (yard : PlainYard) (near : List Neighbour) (b : ℕ) (s : Slot) (turn : ℕ) (l : Lattice) → IsAtSlot yard b s turn l
+    → (p : Placement) → p.turn ≡ turn → IsFreeNear yard near b s p → StandsAtRow yard near b turn l
+stands_at_row yard near b s turn l h p t free =
     let is = free.placement in
-    let same : is.plate ≡ plate = same_plate yard free.block s p plate h.plate_is is free.within in
-    let form : turned p.turn free.block.shape ≡ shape = ap (λ q. turned q free.block.shape) t ∙ sym (h.shape_is free.block free.block_is) in
+    let plate : Plate = h.at.plate in
+    let same : is.plate ≡ plate = same_plate yard free.block s p plate h.at.plate_is is free.within in
+    let form : turned p.turn free.block.shape ≡ footprint_at yard (b * 4 + turn) =
+    ap (λ q. turned q free.block.shape) t ∙ sym (shape_in yard b turn free.block h.block h.turn_is free.block_is) in
     let (j, y) = is.y_step in
     let (k, x) = is.x_step in
     let y_is : p.y ≡ j * plate.pitch = y ∙ ap (λ (q : Plate). j * q.pitch) same in
     let x_is : p.x ≡ k * plate.pitch = x ∙ ap (λ (q : Plate). k * q.pitch) same in
     let high : is.plate.height ≡ plate.height = ap (λ (q : Plate). q.height) same in
     let wide : is.plate.width ≡ plate.width = ap (λ (q : Plate). q.width) same in
-    let reach_high : reach_y (turned p.turn free.block.shape) ≡ reach_y shape = ap reach_y form in
-    let reach_wide : reach_x (turned p.turn free.block.shape) ≡ reach_x shape = ap reach_x form in
+    let reach_high : reach_y (turned p.turn free.block.shape) ≡ reach_y (footprint_at yard (b * 4 + turn)) = ap reach_y form in
+    let reach_wide : reach_x (turned p.turn free.block.shape) ≡ reach_x (footprint_at yard (b * 4 + turn)) = ap reach_x form in
     let y_fits = is.y_fits in
     let x_fits = is.x_fits in
     let clear : AreClear (obstacles_of yard (b * 4 + turn) near) (place_of p) = subst (λ q. AreClear (obstacles_of yard (b * 4 + q) near) (place_of p)) t free.clear in
@@ -122,81 +86,59 @@ stands_at_row yard near b s turn plate shape rows columns h p t free =
     record {
       j = j;
       k = k;
-      row = (h.rows_are j).1 (omega arith);
-      column = (h.columns_are k).1 (omega arith);
-      y = y_is;
-      x = x_is;
-      clear = subst (AreClear (obstacles_of yard (b * 4 + turn) near)) at clear;
+      row = (h.at.lattice.rows j).1 (omega arith);
+      column = (h.at.lattice.columns k).1 (omega arith);
+      clear = subst (λ q. AreClear (obstacles_of yard (b * 4 + turn) near) (place q j k)) (sym h.at.lattice.pitch)
+          (subst (AreClear (obstacles_of yard (b * 4 + turn) near)) at clear);
     }
 
-on_at : (pitch y x row column j k : ℕ) (p : Placement) → 1 ≤ pitch → y ≡ row * pitch → x ≡ column * pitch → p.y ≡ j * pitch → p.x ≡ k * pitch
-    → IsFrom y x p → IsOnFrom row column j k
-on_at pitch y x row column j k p some ey ex fy fx on =
-    on_rows pitch row column j k some
-    (subst (λ y. IsOnFrom y (column * pitch) (j * pitch) (k * pitch)) ey
-    (subst (λ x. IsOnFrom y x (j * pitch) (k * pitch)) ex
-    (subst (λ v. IsOnFrom y x v (k * pitch)) fy (subst (λ u. IsOnFrom y x p.y u) fx on))))
+-- every row and column is the first one or after it
+on_zero : (j k : ℕ) → IsOnFrom 0 0 j k
+on_zero j k = elim (cases_lt 0 j) [ inl l ↦ inl l | inr z ↦ inr (omega arith, omega arith) ]
 
--- where no position from a row and a column on is clear, no placement of the turn from there on is free
-pub turn_none : (yard : PlainYard) (near : List Neighbour) (b : ℕ) (s : Slot) (turn : ℕ) (plate : Plate) (shape : List Point) (rows columns y x row column : ℕ)
-    → IsAtSlot yard b s turn plate shape rows columns → 1 ≤ plate.pitch → y ≡ row * plate.pitch → x ≡ column * plate.pitch
-    → HasNoClearFrom (obstacles_of yard (b * 4 + turn) near) plate.pitch rows columns row column
-    → (p : Placement) → p.turn ≡ turn → IsFreeNear yard near b s p → IsFrom y x p → ⊥
-turn_none yard near b s turn plate shape rows columns y x row column h some ey ex none p t free on =
-    let at = stands_at_row yard near b s turn plate shape rows columns h p t free in
-    none at.j at.k at.row at.column (on_at plate.pitch y x row column at.j at.k p some ey ex at.y at.x on) at.clear
-
--- the first clear position from there on is that of the first free placement
-pub turn_first : (yard : PlainYard) (near : List Neighbour) (b : ℕ) (s : Slot) (turn : ℕ) (plate : Plate) (shape : List Point) (rows columns y x row column m n : ℕ)
-    → IsAtSlot yard b s turn plate shape rows columns → 1 ≤ plate.pitch → y ≡ row * plate.pitch → x ≡ column * plate.pitch
-    → ((j k : ℕ) → j < rows → k < columns → IsOnFrom row column j k → AreClear (obstacles_of yard (b * 4 + turn) near) (place plate.pitch j k) → IsOnFrom m n j k)
-    → (p : Placement) → p.turn ≡ turn → IsFreeNear yard near b s p → IsFrom y x p → IsFrom (m * plate.pitch) (n * plate.pitch) p
-turn_first yard near b s turn plate shape rows columns y x row column m n h some ey ex first p t free on =
-    let at = stands_at_row yard near b s turn plate shape rows columns h p t free in
-    let later = first at.j at.k at.row at.column (on_at plate.pitch y x row column at.j at.k p some ey ex at.y at.x on) at.clear in
-    subst (λ v. IsOnFrom (m * plate.pitch) (n * plate.pitch) v p.x) (sym at.y)
-    (subst (λ u. IsOnFrom (m * plate.pitch) (n * plate.pitch) (at.j * plate.pitch) u) (sym at.x) (on_positions plate.pitch m n at.j at.k some later))
-
--- it is at or after where the search began
-pub turn_from : (pitch y x row column m n : ℕ) → 1 ≤ pitch → y ≡ row * pitch → x ≡ column * pitch → IsOnFrom row column m n
-    → IsOnFrom y x (m * pitch) (n * pitch)
-turn_from pitch y x row column m n some ey ex on =
-    subst (λ y. IsOnFrom y x (m * pitch) (n * pitch)) (sym ey)
-    (subst (λ x. IsOnFrom (row * pitch) x (m * pitch) (n * pitch)) (sym ex) (on_positions pitch row column m n some on))
+-- where no position is clear, no placement of the turn is free
+pub turn_none : (yard : PlainYard) (near : List Neighbour) (b : ℕ) (s : Slot) (turn : ℕ) (l : Lattice) → IsAtSlot yard b s turn l
+    → HasNoClearFrom (obstacles_of yard (b * 4 + turn) near) l.pitch l.rows l.columns 0 0
+    → (p : Placement) → p.turn ≡ turn → IsFreeNear yard near b s p → ⊥
+turn_none yard near b s turn l h none p t free =
+    let at = stands_at_row yard near b s turn l h p t free in
+    none at.j at.k at.row at.column (on_zero at.j at.k) at.clear
 
 -- the placement of a slot in a turn, at a row and a column
 abbrev pub placed_at : Slot → ℕ → ℕ → ℕ → Placement
 placed_at s turn y x = record { start = s.start; end = s.end; plate = s.plate; turn = turn; y = y; x = x }
 
 -- a clear position is a free placement
-pub turn_some : (yard : PlainYard) (near : List Neighbour) (b : ℕ) (s : Slot) (turn : ℕ) (plate : Plate) (shape : List Point) (rows columns j k : ℕ)
-    → IsAtSlot yard b s turn plate shape rows columns → turn < 4
+pub turn_some : (yard : PlainYard) (near : List Neighbour) (b : ℕ) (s : Slot) (turn : ℕ) (l : Lattice) (j k : ℕ) → IsAtSlot yard b s turn l
     → ((block : Block) → slice_get yard.blocks b ≡ Some block → unwrap_or (slice_get block.turns turn) false ≡ true)
-    → j < rows → k < columns → AreClear (obstacles_of yard (b * 4 + turn) near) (place plate.pitch j k)
-    → IsFreeNear yard near b s (placed_at s turn (j * plate.pitch) (k * plate.pitch))
-turn_some yard near b s turn plate shape rows columns j k h t allowed row column clear =
+    → j < l.rows → k < l.columns → AreClear (obstacles_of yard (b * 4 + turn) near) (place l.pitch j k)
+    → IsFreeNear yard near b s (placed_at s turn (j * l.pitch) (k * l.pitch))
+turn_some yard near b s turn l j k h allowed row column clear =
     let (block, block_is) = element_at yard.blocks b h.block in
     let slot = h.slot block block_is in
     let e = slot.ends in
-    let same : e.plate ≡ plate = same_Some e.plate plate (sym e.plate_is ∙ h.plate_is) in
-    let form : shape ≡ turned turn block.shape = h.shape_is block block_is in
-    let high = (h.rows_are j).0 row in
-    let wide = (h.columns_are k).0 column in
-    let reach_high : reach_y shape ≡ reach_y (turned turn block.shape) = ap reach_y form in
-    let reach_wide : reach_x shape ≡ reach_x (turned turn block.shape) = ap reach_x form in
+    let plate : Plate = h.at.plate in
+    let same : e.plate ≡ plate = same_Some e.plate plate (sym e.plate_is ∙ h.at.plate_is) in
+    let form : footprint_at yard (b * 4 + turn) ≡ turned turn block.shape = shape_in yard b turn block h.block h.turn_is block_is in
+    let high = (h.at.lattice.rows j).0 row in
+    let wide = (h.at.lattice.columns k).0 column in
+    let y_is : j * l.pitch ≡ j * plate.pitch = ap (λ p. j * p) h.at.lattice.pitch in
+    let x_is : k * l.pitch ≡ k * plate.pitch = ap (λ p. k * p) h.at.lattice.pitch in
+    let reach_high : reach_y (footprint_at yard (b * 4 + turn)) ≡ reach_y (turned turn block.shape) = ap reach_y form in
+    let reach_wide : reach_x (footprint_at yard (b * 4 + turn)) ≡ reach_x (turned turn block.shape) = ap reach_x form in
     record {
       block = block;
       block_is = block_is;
       placement = record {
         plate = plate;
-        plate_is = h.plate_is;
+        plate_is = h.at.plate_is;
         start = slot.start;
         released = e.released;
         end_is = ap (λ (q : Plate). end_of (open_days yard.days q.closed) s.start block.duration) (sym same) ∙ e.end_is;
-        turn = t;
+        turn = h.turn_is;
         allowed = told_true (slice_get block.turns turn) (allowed block block_is);
-        x_step = (k, refl);
-        y_step = (j, refl);
+        x_step = (k, x_is);
+        y_step = (j, y_is);
         x_fits = omega arith;
         y_fits = omega arith;
       };
@@ -296,10 +238,6 @@ plate_read yard codes y plates i plate is e f g l read =
       subst (IsPlate yard.days) (sym here) (limits.plates i plate l),
     )
 
--- a position within a side is small
-pub position_fits : (n pitch reach side k : ℕ) → ((k : ℕ) → (k < n) ↔ (k * pitch + reach ≤ side)) → side ≤ 400 → k < n → Fits w16 (k * pitch)
-position_fits n pitch reach side k are small l = let h = (are k).0 l in omega arith
-
 -- what follows from what is so of an answer
 pub none_so : {A : Type 0} (o : Option A) (P Q : Type 0) → (P → Q) → IfNone o P → IfNone o Q
 none_so None P Q f h = f h
@@ -317,10 +255,6 @@ witness_at t list b i slots d p are l free full = record {
   free = free;
   before = full;
 }
-
--- every placement is at or after the position 0, 0
-pub from_zero : (p : Placement) → IsFrom 0 0 p
-from_zero p = elim (cases_lt 0 p.y) [ inl l ↦ inl l | inr z ↦ inr (omega arith, omega arith) ]
 
 -- what is so where an answer is none
 pub none_is : {A : Type 0} (o : Option A) (P : Type 0) → is_some o ≡ false → IfNone o P → P

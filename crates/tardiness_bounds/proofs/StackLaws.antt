@@ -4,10 +4,11 @@ use Rattle.std.specs.Prelude.{slice_get, All}
 use Rattle.std.proofs.Math.Nat.{mul-le-mul, mul-le-mul_right, suc-mul}
 use Rattle.std.proofs.lemmas.Bool.{cases_lt}
 use Rattle.std.proofs.lemmas.List.{get_or-map, take_more}
-use Rattle.std.proofs.lemmas.Option.{slice_get_within}
+use Rattle.std.proofs.lemmas.Option.{none-some, slice_get_within}
 use Rattle.std.proofs.lemmas.List.Elements.{All-nil, All-push, All-head, All-tail, All-cons}
 use Rattle.common_lists.proofs.EachLaws.{get-append_cases}
 use Rattle.common_lists.proofs.ListLaws.{only_element, taken_get, get_taken, take_before}
+use Rattle.shape_exact.specs.Yards.{IsYard}
 use Rattle.plan_rule.specs.declared.literal.Literal.{Literal}
 use Rattle.plan_rule.specs.Boxes.{LeavesFree, exact}
 use Rattle.tardiness_bounds.specs.declared.left.Left.{Left}
@@ -52,6 +53,26 @@ one_more : (a n : ℕ) → (a + 1) * n ≡ a * n + n
 one_more a n =
     let e : suc a ≡ a + 1 = omega arith in
     subst (λ k. k * n ≡ a * n + n) e (suc-mul a n)
+
+-- what is left where nothing stands, in place of the first of no blocks
+none_taken : (t : PlainTables) (lefts : List Left) (k : ℕ) → k ≤ 0 → AreLefts t [] lefts 0 → AreLefts t (take k []) lefts (k * length t.yard.blocks)
+none_taken t lefts zero l h = let e : 0 ≡ 0 * length t.yard.blocks = omega arith in subst (AreLefts t [] lefts) e h
+none_taken t lefts (suc k) l h = absurd (omega arith)
+
+-- a stack with no literal
+pub stack_start : (t : PlainTables) (list : List Standing) (lefts : List Left) (capacity : ℕ) → IsYard t.yard → list ≡ [] → 1056 ≤ capacity
+    → length lefts ≡ length t.yard.blocks → AreLefts t [] lefts 0 → IsStack t list lefts capacity
+stack_start t list lefts capacity limits none room long h =
+    subst (λ fs. IsStack t fs lefts capacity) (sym none)
+    (record {
+      limits = limits;
+      room = room;
+      len = (let m = one_more 0 (length t.yard.blocks) in omega arith);
+      few = omega arith;
+      standing = All-nil (IsStanding t.yard);
+      each = λ k l. none_taken t lefts k l h;
+      once = λ k f at. absurd (none-some f at);
+    })
 
 -- an element of a list stands where it stood, where the list goes on
 pub kept_get : {A : Type 0} (xs more : List A) (k : ℕ) (x : A) → take (length xs) more ≡ xs → k < length xs → slice_get more k ≡ Some x → slice_get xs k ≡ Some x

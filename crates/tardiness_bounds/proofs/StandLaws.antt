@@ -1,6 +1,6 @@
 -- The codes of a stand, row by row.
 use Rattle.std.proofs.Common.{◌≡◌, ℕ, ◌+◌, ◌-◌, ◌*◌, ◌/◌, ◌%◌, ◌<◌, ◌≤◌, cond, List, length, get_or, map, Some, refl, sym, ap, ◌∙◌, arith, inl, inr}
-use Rattle.std.specs.Prelude.{slice_get, ◌↔◌}
+use Rattle.std.specs.Prelude.{slice_get}
 use Rattle.std.specs.List.{range_with_len}
 use Rattle.std.proofs.lemmas.Bool.{cases_lt, le-leb, lt-leb}
 use Rattle.std.proofs.lemmas.Nat.{div-add-mod', mul-le}
@@ -20,7 +20,9 @@ use Rattle.code_table.specs.Tables.{IsSums}
 use Rattle.code_table.proofs.CodeLaws.{code_at, multiple, place_of_row, stand_of_placement, step_below}
 use Rattle.code_table.proofs.OrderLaws.{one_code}
 use Rattle.code_table.proofs.PlacedLaws.{placed-facts}
+use Rattle.tardiness_bounds.specs.declared.lattice.Lattice.{Lattice}
 use Rattle.tardiness_bounds.specs.declared.stand.Stand.{Stand}
+use Rattle.tardiness_bounds.specs.Lattices.{IsLattice}
 use Rattle.tardiness_bounds.specs.Stands.{IsGrid, IsOnStand, code_on, place_on}
 
 -- a number of steps that leaves room for a length
@@ -41,24 +43,17 @@ same_number a b h i = elim (cases_lt a b) [
   | inr more ↦ elim (cases_lt b a) [ inl less ↦ absurd (let m = h b less in omega arith) | inr other ↦ omega arith ]
 ]
 
--- the lattice of a shape on a plate
-pub record IsLatticeOf (plate : Plate) (shape : List Point) (s : Stand) : Type 0 where
-  pub some : 0 < plate.pitch
-  pub pitch_is : s.lattice.pitch ≡ plate.pitch
-  pub rows_are : (k : ℕ) → (k < s.lattice.rows) ↔ (k * plate.pitch + reach_y shape ≤ plate.height)
-  pub columns_are : (k : ℕ) → (k < s.lattice.columns) ↔ (k * plate.pitch + reach_x shape ≤ plate.width)
+columns_same : (plate : Plate) (shape : List Point) (l : Lattice) → 0 < plate.pitch → IsLattice plate shape l → l.columns ≡ columns plate shape
+columns_same plate shape l some is =
+    same_number l.columns (columns plate shape)
+    (λ k below. step_below k plate.pitch (reach_x shape) plate.width some ((is.columns k).0 below))
+    (λ k below. (is.columns k).1 (step_fits k plate.pitch (reach_x shape) plate.width some below))
 
-columns_same : (plate : Plate) (shape : List Point) (s : Stand) → IsLatticeOf plate shape s → s.lattice.columns ≡ columns plate shape
-columns_same plate shape s l =
-    same_number s.lattice.columns (columns plate shape)
-    (λ k below. step_below k plate.pitch (reach_x shape) plate.width l.some ((l.columns_are k).0 below))
-    (λ k below. (l.columns_are k).1 (step_fits k plate.pitch (reach_x shape) plate.width l.some below))
-
-rows_same : (plate : Plate) (shape : List Point) (s : Stand) → IsLatticeOf plate shape s → s.lattice.rows ≡ rows plate shape
-rows_same plate shape s l =
-    same_number s.lattice.rows (rows plate shape)
-    (λ k below. step_below k plate.pitch (reach_y shape) plate.height l.some ((l.rows_are k).0 below))
-    (λ k below. (l.rows_are k).1 (step_fits k plate.pitch (reach_y shape) plate.height l.some below))
+rows_same : (plate : Plate) (shape : List Point) (l : Lattice) → 0 < plate.pitch → IsLattice plate shape l → l.rows ≡ rows plate shape
+rows_same plate shape l some is =
+    same_number l.rows (rows plate shape)
+    (λ k below. step_below k plate.pitch (reach_y shape) plate.height some ((is.rows k).0 below))
+    (λ k below. (is.rows k).1 (step_fits k plate.pitch (reach_y shape) plate.height some below))
 
 -- how many placements the first stands have, as a list
 all_sums : PlainYard → Block → List ℕ
@@ -80,7 +75,8 @@ pub record IsOfStretch (yard : PlainYard) (b : ℕ) (block : Block) (plate : Pla
   pub block_is : slice_get yard.blocks b ≡ Some block
   pub plate_is : slice_get yard.plates s.stretch.place.plate ≡ Some plate
   pub shape_is : shape ≡ turned s.stretch.place.turn block.shape
-  pub lattice : IsLatticeOf plate shape s
+  pub pitch : 0 < plate.pitch
+  pub lattice : IsLattice plate shape s.lattice
   pub stretch : IsStretch (placements_of yard block) s.stretch
   pub each : HasEach (placements_of yard block) s.stretch
   pub some : s.stretch.lo < s.stretch.hi
@@ -100,9 +96,9 @@ spot_on yard b block plate shape s x h low high =
     let (j, y) = is.y_step in
     let (k, v) = is.x_step in
     let y_is : (x - s.stretch.lo) / s.stretch.columns * s.stretch.pitch ≡ j * s.lattice.pitch =
-    y ∙ ap (λ (q : Plate). j * q.pitch) same ∙ ap (λ p. j * p) (sym h.lattice.pitch_is) in
+    y ∙ ap (λ (q : Plate). j * q.pitch) same ∙ ap (λ p. j * p) (sym h.lattice.pitch) in
     let x_is : (x - s.stretch.lo) % s.stretch.columns * s.stretch.pitch ≡ k * s.lattice.pitch =
-    v ∙ ap (λ (q : Plate). k * q.pitch) same ∙ ap (λ p. k * p) (sym h.lattice.pitch_is) in
+    v ∙ ap (λ (q : Plate). k * q.pitch) same ∙ ap (λ p. k * p) (sym h.lattice.pitch) in
     let y_plate : (x - s.stretch.lo) / s.stretch.columns * s.stretch.pitch ≡ j * plate.pitch = y ∙ ap (λ (q : Plate). j * q.pitch) same in
     let x_plate : (x - s.stretch.lo) % s.stretch.columns * s.stretch.pitch ≡ k * plate.pitch = v ∙ ap (λ (q : Plate). k * q.pitch) same in
     let high_is : is.plate.height ≡ plate.height = ap (λ (q : Plate). q.height) same in
@@ -114,7 +110,7 @@ spot_on yard b block plate shape s x h low high =
     record {
       j = j;
       k = k;
-      on = ((h.lattice.rows_are j).1 (omega arith), (h.lattice.columns_are k).1 (omega arith));
+      on = ((h.lattice.rows j).1 (omega arith), (h.lattice.columns k).1 (omega arith));
       is = ap (λ y. placed s.stretch.place.start s.stretch.place.end s.stretch.place.plate s.stretch.place.turn y ((x - s.stretch.lo) % s.stretch.columns * s.stretch.pitch)) y_is
           ∙ ap (λ x. placed s.stretch.place.start s.stretch.place.end s.stretch.place.plate s.stretch.place.turn (j * s.lattice.pitch) x) x_is;
     }
@@ -127,11 +123,11 @@ sum_code : (yard : PlainYard) (b : ℕ) (block : Block) (plate : Plate) (shape :
 sum_code yard b block plate shape s j k h on =
     let first = placed-facts yard block s.stretch.lo (nth_place s.stretch s.stretch.lo) (h.stretch.each s.stretch.lo (omega arith) h.some) in
     let has = stand_of_placement yard block (nth_place s.stretch s.stretch.lo) first in
-    let c = columns_same plate shape s h.lattice in
-    let r = rows_same plate shape s h.lattice in
+    let c = columns_same plate shape s.lattice h.pitch h.lattice in
+    let r = rows_same plate shape s.lattice h.pitch h.lattice in
     let row = on.0 in
     let column = on.1 in
-    let e = h.lattice.pitch_is in
+    let e = h.lattice.pitch in
     code_at yard block (all_sums yard block) (place_on s j k) plate shape _ (j * columns plate shape + k) h.limits (all_sums_are yard block)
     (record { start = has.start; turn = has.turn; allowed = has.allowed; ends = has.ends }) h.plate_is h.shape_is
     (place_of_row plate shape j k (j * s.lattice.pitch) (k * s.lattice.pitch) (j * columns plate shape + k) (omega arith) (omega arith)
@@ -163,7 +159,7 @@ begins yard b block plate shape s h =
 pub grid_of_stretch : (yard : PlainYard) (b : ℕ) (block : Block) (plate : Plate) (shape : List Point) (s : Stand) → IsOfStretch yard b block plate shape s
     → IsGrid (placements_of yard block) s
 grid_of_stretch yard b block plate shape s h =
-    let c = columns_same plate shape s h.lattice in
+    let c = columns_same plate shape s.lattice h.pitch h.lattice in
     let at : (j k : ℕ) → IsOnStand s j k → slice_get (placements_of yard block) (code_on s j k) ≡ Some (place_on s j k) = λ j k on.
     ap (λ n. slice_get (placements_of yard block) (n + (j * s.lattice.columns + k))) (begins yard b block plate shape s h)
     ∙ ap (λ c. slice_get (placements_of yard block) (get_or (all_sums yard block) (s.stretch.place.start * (length yard.plates * 4) + (s.stretch.place.plate * 4 + s.stretch.place.turn)) 0 + (j * c + k))) c

@@ -1,5 +1,5 @@
 -- The steps of a walk over the free codes of a block.
-use Rattle.std.proofs.Common.{◌≡◌, ℕ, ◌+◌, ◌-◌, ◌*◌, ◌/◌, ◌%◌, ◌<◌, ◌≤◌, List, length, Option, Some, None, refl, sym, ap, ◌∙◌, subst, arith, inl, inr, add-one}
+use Rattle.std.proofs.Common.{◌≡◌, ℕ, ◌+◌, ◌-◌, ◌*◌, ◌/◌, ◌%◌, ◌<◌, ◌≤◌, List, length, Option, Some, None, sym, ap, ◌∙◌, subst, arith, inl, inr, add-one}
 use Rattle.std.specs.Prelude.{slice_get, All, IfNone, IfSome, is_some, true, false}
 use Rattle.std.proofs.lemmas.Bool.{cases_lt, false≢true}
 use Rattle.std.proofs.lemmas.Nat.{div-mul-add, mod-mul-add, mul-le}
@@ -225,20 +225,23 @@ spot_there yard list b from columns s stretch is same low high long =
     )
 
 -- the walk enters a stand at its code
-pub enter_here : (yard : PlainYard) (list : List Standing) (b most from columns : ℕ) (s : Stand) (stretch : Stretch) → IsStand yard list b s → s.stretch ≡ stretch
-    → stretch.lo ≤ from → from < stretch.hi → columns ≡ s.lattice.columns
-    → ((block : Block) → slice_get yard.blocks b ≡ Some block → cost_on block stretch.place.end ≤ most)
-    → IsHere yard list b most from (record { from = from; row = (from - stretch.lo) / columns; column = (from - stretch.lo) % columns; stand = s })
-enter_here yard list b most from columns s stretch is same low high long cheap =
-    let spot = spot_there yard list b from columns s stretch is same low high long in
+pub enter_here : (yard : PlainYard) (list : List Standing) (b most from columns : ℕ) (w : Walk) (stretch : Stretch) → IsStand yard list b w.stand → w.stand.stretch ≡ stretch
+    → stretch.lo ≤ from → from < stretch.hi → columns ≡ w.stand.lattice.columns
+    → w.from ≡ from → w.row ≡ (from - stretch.lo) / columns → w.column ≡ (from - stretch.lo) % columns
+    → ((block : Block) → slice_get yard.blocks b ≡ Some block → cost_on block stretch.place.end ≤ most) → IsHere yard list b most from w
+enter_here yard list b most from columns w stretch is same low high long here row column cheap =
+    let spot = spot_there yard list b from columns w.stand stretch is same low high long in
     let hi = ap (λ (s : Stretch). s.hi) same in
     record {
-      same = refl;
+      same = here;
       within = omega arith;
       entered = record {
         stand = is;
         cheap = subst (λ (s : Stretch). (block : Block) → slice_get yard.blocks b ≡ Some block → cost_on block s.place.end ≤ most) (sym same) cheap;
-        at = record { code = spot.3; column = (let c = spot.2 in omega arith) };
+        at = record {
+          code = here ∙ spot.3 ∙ ap (λ j. code_on w.stand j ((from - stretch.lo) % columns)) (sym row) ∙ ap (λ k. code_on w.stand w.row k) (sym column);
+          column = (let c = spot.2 in omega arith);
+        };
       };
     }
 

@@ -17,6 +17,10 @@ IsLeft t list b (Stands cost) =
 IsLeft t list b (Free w) = LeavesFree (literals_of list) b × IsWitness t list b w
 IsLeft t list b Never = LeavesFree (literals_of list) b × HasNoPlace t.yard list b
 
+-- what is left to the first blocks where none stands
+abbrev pub AreFirstLefts : PlainTables → List Left → Type 0
+AreFirstLefts t lefts = (b : ℕ) (x : Left) → slice_get lefts b ≡ Some x → IsLeft t [] b x
+
 -- from a place on, what is left to each block
 pub record AreLefts (t : PlainTables) (list : List Standing) (lefts : List Left) (from : ℕ) : Type 0 where
   pub len : from + length t.yard.blocks ≤ length lefts

@@ -8,9 +8,11 @@ pub mod Standings
 pub mod Neighbours
 pub mod Obstacles
 pub mod Rows
+pub mod Lattices
 pub mod Tables
 pub mod Witnesses
 pub mod Lefts
+pub mod KeptTables
 pub mod Stacks
 pub mod BestWindows
 pub mod Nexts

@@ -1,15 +1,12 @@
 -- What is made once of a yard to find free tables.
-use Rattle.std.specs.Prelude.{◌≡◌, ℕ, ℤ, ◌≤◌, List, length, map, Option, Some, slice_get, All}
+use Rattle.std.specs.Prelude.{◌≡◌, ℕ, ◌≤◌, List, length, map, Some, slice_get, All}
 use Rattle.shape_exact.specs.Yards.{PlainYard}
 use Rattle.shape_exact.specs.declared.block.Block.{Block}
-use Rattle.minkowski_obstacles.specs.Pairs.{Pair}
 use Rattle.code_table.specs.Placements.{placements}
 use Rattle.code_table.specs.Stretches.{IsStretch}
 use Rattle.tardiness_bounds.specs.declared.tables.SlotList.{SlotList}
 use Rattle.tardiness_bounds.specs.declared.stretches.StretchList.{StretchList}
 use Rattle.tardiness_bounds.specs.declared.slot.Slot.{Slot}
-use Rattle.tardiness_bounds.specs.Obstacles.{AreObstacles}
-use Rattle.tardiness_bounds.specs.Rows.{AreRows}
 use Rattle.tardiness_bounds.specs.Slots.{AreSlots}
 
 -- a yard, and the slots of each of its blocks
@@ -39,10 +36,3 @@ pub record AreStretches (yard : PlainYard) (b : ℕ) (s : StretchList) : Type 0 
 pub record AreAllStretches (yard : PlainYard) (stretches : List StretchList) : Type 0 where
   pub one_each : length stretches ≡ length yard.blocks
   pub each : (b : ℕ) (s : StretchList) → slice_get stretches b ≡ Some s → AreStretches yard b s
-
--- the slots and the stretches of each block, all obstacles, and their rows
-pub record AreTables (yard : PlainYard) (slots : List SlotList) (stretches : List StretchList) (obstacles : List Pair) (reach : ℕ) (rows : List (Option (ℤ × ℤ))) : Type 0 where
-  pub slots_are : AreAllSlots yard slots
-  pub stretches_are : AreAllStretches yard stretches
-  pub obstacles_are : AreObstacles yard obstacles
-  pub rows_are : AreRows obstacles reach rows

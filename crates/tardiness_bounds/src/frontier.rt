@@ -18,6 +18,7 @@ use crate::bound::{Bound, bound_of};
 use crate::clear::is_clear;
 use crate::free_codes::FreeCodes;
 use crate::left::{Left, add_lefts, first_lefts};
+use crate::scratch::Scratch;
 use crate::standing::Standing;
 use crate::tables::YardTables;
 use crate::walk::{next_code, walk_from};
@@ -28,13 +29,17 @@ use shape_exact::NoMemory;
 use std::alloc::Global;
 use std::marker::Model;
 
-/// Exact literals that were pushed, and what each number of the first of them leaves to each block. Contracts see it as
-/// the yard and the list of the literals, in the order of the pushes.
+/// The room for what is left to 32 blocks by none of them, and again after each of 32 pushes.
+const ROOM: usize = 1056;
+
+/// Exact literals that were pushed, what each number of the first of them leaves to each block, and the lists that its
+/// searches write. Contracts see it as the yard and the list of the literals, in the order of the pushes.
 #[derive(Drop)]
 pub struct Frontier<'a> {
     tables: &'a YardTables<'a>,
     list: ArrayVec<Standing, 32>,
     lefts: Vec<Left>,
+    scratch: Scratch,
 }
 
 impl<'a> Model for Frontier<'a> {
@@ -127,17 +132,19 @@ fn leaves_free(list: &[Standing], block: u8) -> bool
 }
 
 impl<'a> Frontier<'a> {
-    /// No literal.
+    /// No literal. What the tables keep of the empty frontier is copied.
     pub fn new(alloc: Global, tables: &'a YardTables<'a>) -> Result<Frontier<'a>, NoMemory>
         ensures yard { IfOk result (λ frontier. frontier.yard ≡ tables.now.yard) }
         ensures empty { IfOk result (λ frontier. frontier.literals ≡ []) }
     {
         tables.codes().limits();
-        let lefts = first_lefts(alloc, tables)?;
+        let mut scratch = Scratch::new();
+        let lefts = first_lefts(alloc, tables, ROOM, &mut scratch)?;
         Ok(Frontier {
             tables,
             list: ArrayVec::new(),
             lefts,
+            scratch,
         })
     }
 
@@ -191,6 +198,7 @@ impl<'a> Frontier<'a> {
             new,
             from,
             &mut self.lefts,
+            &mut self.scratch,
         );
     }
 

@@ -14,6 +14,9 @@ use crate::tables::YardTables;
 use arrayvec::ArrayVec;
 use lattice_free::{Forbidden, columns_between};
 
+/// The forbidden columns of a row, at most one range of them beside each neighbour.
+pub(crate) type ForbiddenColumns = ArrayVec<Forbidden, 80>;
+
 /// An end of a row, moved to where a neighbour stands.
 fn moved(end: i32, by: u16) -> i32
     requires low { negsuc 1999 ≤ℤ end }
@@ -61,7 +64,7 @@ fn forbid(
     pitch: u16,
     row: u16,
     columns: u16,
-    forbidden: &mut ArrayVec<Forbidden, 80>,
+    forbidden: &mut ForbiddenColumns,
 )
     requires near { All (IsNeighbour tables.now.yard) near.now }
     requires few { length near.now ≤ 80 }
@@ -79,13 +82,14 @@ fn forbid(
 }
 
 /// The first row and the first column in it, from a row and a column on, at which the footprint of a block in a
-/// turn is clear of those near it.
+/// turn is clear of those near it. The list of forbidden columns is written anew for each row.
 pub(crate) fn first_clear(
     tables: &YardTables<'_>,
     near: &[Neighbour],
     moving: u8,
     lattice: Lattice,
     from: (u16, u16),
+    forbidden: &mut ForbiddenColumns,
 ) -> Option<(u16, u16)>
     requires near { All (IsNeighbour tables.now.yard) near.now }
     requires few { length near.now ≤ 80 }
@@ -100,7 +104,6 @@ pub(crate) fn first_clear(
         → AreClear (obstacles_of tables.now.yard moving near.now) (place lattice.pitch j k) → IsOnFrom at.0 at.1 j k) }
 {
     let mut column = from.1;
-    let mut forbidden = ArrayVec::new();
     for row in from.0..lattice.rows {
         forbid(
             tables,
@@ -109,7 +112,7 @@ pub(crate) fn first_clear(
             lattice.pitch,
             row,
             lattice.columns,
-            &mut forbidden,
+            forbidden,
         );
         if let Some(k) = first_gap(forbidden.as_slice(), lattice.columns, column) {
             return Some((row, k));

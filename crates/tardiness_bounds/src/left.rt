@@ -8,6 +8,7 @@ ghost use Rattle.tardiness_bounds.specs.Lefts.{AreLefts, AreLeftsBefore, IsLeft,
 use crate::apart::is_apart;
 use crate::block::block_at;
 use crate::near::of_standing;
+use crate::scratch::Scratch;
 use crate::standing::Standing;
 use crate::tables::YardTables;
 use crate::witness::{Witness, witness_from};
@@ -48,7 +49,13 @@ pub(crate) fn clashes(tables: &YardTables<'_>, f: Standing, block: u8, place: Pl
 }
 
 /// What is left to a block that does not stand. Its slots before `from` are full.
-fn left_from(tables: &YardTables<'_>, list: &[Standing], block: u8, from: usize) -> Left
+fn left_from(
+    tables: &YardTables<'_>,
+    list: &[Standing],
+    block: u8,
+    from: usize,
+    scratch: &mut Scratch,
+) -> Left
     requires list { All (IsStanding tables.now.yard) list.now }
     requires few { length list.now ≤ 32 }
     requires block { block < length tables.now.yard.blocks }
@@ -56,22 +63,38 @@ fn left_from(tables: &YardTables<'_>, list: &[Standing], block: u8, from: usize)
     requires full { AreFull tables.now list.now block from }
     ensures { IsLeft tables.now list.now block result }
 {
-    match witness_from(tables, list, block, from) {
+    match witness_from(tables, list, block, from, scratch) {
         Some(w) => Left::Free(w),
         None => Left::Never,
     }
 }
 
-/// What is left to each block where none stands, with room for what each of 32 pushes adds.
-pub(crate) fn first_lefts(alloc: Global, tables: &YardTables<'_>) -> Result<Vec<Left>, NoMemory>
+/// What is left to a block where none stands: as the tables keep it, or by a search where they do not.
+fn first_left(tables: &YardTables<'_>, block: u8, scratch: &mut Scratch) -> Left
+    requires { block < length tables.now.yard.blocks }
+    ensures { IsLeft tables.now [] block result }
+{
+    match tables.first_left(block) {
+        Some(left) => left,
+        None => left_from(tables, &[], block, 0, scratch),
+    }
+}
+
+/// What is left to each block where none stands, in a list with so much room.
+pub(crate) fn first_lefts(
+    alloc: Global,
+    tables: &YardTables<'_>,
+    room: usize,
+    scratch: &mut Scratch,
+) -> Result<Vec<Left>, NoMemory>
     ensures lefts { IfOk result (λ lefts. AreLefts tables.now [] lefts.items 0) }
     ensures len { IfOk result (λ lefts. length lefts.items ≡ length tables.now.yard.blocks) }
-    ensures room { IfOk result (λ lefts. 1056 ≤ vec_capacity lefts) }
+    ensures room { IfOk result (λ lefts. room ≤ vec_capacity lefts) }
 {
     let codes = tables.codes();
-    let mut lefts = Vec::with_capacity(alloc, 1056)?;
+    let mut lefts = Vec::with_capacity(alloc, room)?;
     for block in 0..block_count(codes) {
-        lefts.push(left_from(tables, &[], block, 0))?;
+        lefts.push(first_left(tables, block, scratch))?;
     }
     Ok(lefts)
 }
@@ -83,6 +106,7 @@ fn next_left(
     new: Standing,
     block: u8,
     old: Left,
+    scratch: &mut Scratch,
 ) -> Left
     requires list { All (IsStanding tables.now.yard) list.now }
     requires few { length list.now ≤ 32 }
@@ -97,7 +121,7 @@ fn next_left(
     match old {
         Left::Free(w) => {
             if clashes(tables, new, block, w.place) {
-                left_from(tables, list, block, w.slot)
+                left_from(tables, list, block, w.slot, scratch)
             } else {
                 old
             }
@@ -115,6 +139,7 @@ pub(crate) fn add_lefts(
     new: Standing,
     from: usize,
     lefts: &mut Vec<Left>,
+    scratch: &mut Scratch,
 )
     requires list { All (IsStanding tables.now.yard) list.now }
     requires few { length list.now ≤ 32 }
@@ -126,7 +151,14 @@ pub(crate) fn add_lefts(
     ensures room { vec_capacity lefts.old ≤ vec_capacity lefts.new }
 {
     for block in 0..block_count(tables.codes()) {
-        let left = next_left(tables, list, new, block, lefts[from + block as usize]);
+        let left = next_left(
+            tables,
+            list,
+            new,
+            block,
+            lefts[from + block as usize],
+            scratch,
+        );
         let Ok(()) = lefts.push(left) else {
             unreachable!()
         };

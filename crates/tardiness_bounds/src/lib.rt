@@ -24,6 +24,7 @@ mod near;
 mod obstacles;
 mod rest;
 mod rows;
+mod scratch;
 mod side;
 mod slot;
 mod stand;

@@ -16,7 +16,7 @@ pub(crate) struct Obstacles {
 }
 
 /// The footprint with this number.
-fn footprint_at(codes: &Codes, number: usize) -> &Shape
+pub(crate) fn footprint_at(codes: &Codes, number: usize) -> &Shape
     requires { number < footprint_count codes.now }
     ensures { result.now ≡ footprint_at codes.now number }
 {

@@ -5,7 +5,7 @@ ghost use Rattle.code_table.specs.Stretches.{HasEach, IsStretch};
 ghost use Rattle.tardiness_bounds.specs.Stands.{IsStand};
 ghost use Rattle.tardiness_bounds.specs.Standings.{IsStanding};
 
-use crate::lattice::{Lattice, lattice_of};
+use crate::lattice::Lattice;
 use crate::near::{Neighbours, near_to};
 use crate::standing::{NOWHERE, Standing};
 use crate::tables::YardTables;
@@ -41,31 +41,25 @@ pub(crate) fn no_stand() -> Stand
     }
 }
 
-/// The stand of a stretch of a block, beside blocks that stand.
-pub(crate) fn stand_of(
+/// Makes a stand that of a stretch of a block, beside blocks that stand.
+pub(crate) fn stand_at(
     tables: &YardTables<'_>,
     list: &[Standing],
     block: u8,
     stretch: Stretch,
-) -> Stand
+    stand: &mut Stand,
+)
     requires list { All (IsStanding tables.now.yard) list.now }
     requires few { length list.now ≤ 32 }
     requires block { block < length tables.now.yard.blocks }
     requires stretch { IsStretch (placements tables.now.yard block) stretch }
     requires each { HasEach (placements tables.now.yard block) stretch }
     requires some { stretch.lo < stretch.hi }
-    ensures stretch { result.stretch ≡ stretch }
-    ensures stand { IsStand tables.now.yard list.now block result }
+    ensures stretch { stand.new.stretch ≡ stretch }
+    ensures stand { IsStand tables.now.yard list.now block stand.new }
 {
-    let codes = tables.codes();
-    let plates = codes.yard().plates();
-    let plate = &plates[stretch.place.plate as usize];
-    let lattice = lattice_of(plate, codes.shape(block, stretch.place.turn));
-    let mut near = ArrayVec::new();
-    near_to(tables, list, stretch.place, &mut near);
-    Stand {
-        stretch,
-        lattice,
-        near,
-    }
+    tables.codes().limits();
+    stand.stretch = stretch;
+    stand.lattice = tables.lattice(stretch.place.plate, block * 4 + stretch.place.turn);
+    near_to(tables, list, stretch.place, &mut stand.near);
 }

@@ -11,20 +11,23 @@ ghost use Rattle.tardiness_bounds.specs.Stands.{IsGround};
 ghost use Rattle.tardiness_bounds.specs.Walks.{AreDear, IsAt, IsFound, IsFreeBeside, IsHere, IsPast, IsWalk};
 
 use crate::block::block_at;
-use crate::ground::first_clear;
-use crate::stand::{Stand, no_stand, stand_of};
+use crate::ground::{ForbiddenColumns, first_clear};
+use crate::stand::{Stand, no_stand, stand_at};
 use crate::standing::Standing;
 use crate::tables::YardTables;
+use arrayvec::ArrayVec;
 use code_table::{Stretch, cost_on};
 use shape_exact::Block;
 
-/// The codes of a block from `from` on, which stands at a row and a column of a stand, where it is one of the stand's.
+/// The codes of a block from `from` on, which stands at a row and a column of a stand, where it is one of the stand's; and
+/// the forbidden columns of a row, as the last search left them.
 #[derive(Drop)]
 pub(crate) struct Walk {
     pub from: u32,
     pub row: u16,
     pub column: u16,
     pub stand: Stand,
+    pub forbidden: ForbiddenColumns,
 }
 
 /// A walk that begins with a code.
@@ -37,6 +40,7 @@ pub(crate) fn walk_from(code: u32) -> Walk
         row: 0,
         column: 0,
         stand: no_stand(),
+        forbidden: ArrayVec::new(),
     }
 }
 
@@ -82,7 +86,7 @@ fn enter(tables: &YardTables<'_>, list: &[Standing], block: u8, most: u32, walk:
         walk.from = past(tables, block, stretch, most);
         return false;
     }
-    walk.stand = stand_of(tables, list, block, stretch);
+    stand_at(tables, list, block, stretch, &mut walk.stand);
     let place = walk.from - stretch.lo;
     let columns = u32::from(walk.stand.lattice.columns);
     walk.row = (place / columns) as u16;
@@ -132,7 +136,14 @@ fn find(tables: &YardTables<'_>, block: u8, walk: &mut Walk) -> Option<u32>
     let stand = &walk.stand;
     let moving = block * 4 + stand.stretch.place.turn;
     let at = (walk.row, walk.column);
-    let found = first_clear(tables, stand.near.as_slice(), moving, stand.lattice, at);
+    let found = first_clear(
+        tables,
+        stand.near.as_slice(),
+        moving,
+        stand.lattice,
+        at,
+        &mut walk.forbidden,
+    );
     let Some((row, column)) = found else {
         walk.from = stand.stretch.hi;
         return None;

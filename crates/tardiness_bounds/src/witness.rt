@@ -1,21 +1,18 @@
 //! The cheapest free placement of a block beside blocks that stand and pieces.
 ghost use Rattle.std.specs.Prelude.{◌≡◌, ◌<◌, ◌≤◌, ℕ, All, IfNone, IfSome, length, slice_get, unwrap_or, Some, true, false};
 ghost use Rattle.shape_exact.specs.declared.block.Block.{Block};
-ghost use Rattle.shape_exact.specs.declared.plate.Plate.{Plate};
 ghost use Rattle.code_table.specs.declared.placement.Placement.{Placement};
-ghost use Rattle.tardiness_bounds.specs.Firsts.{AreMultiples, IsFrom};
 ghost use Rattle.tardiness_bounds.specs.Neighbours.{IsNeighbour};
 ghost use Rattle.tardiness_bounds.specs.Slots.{IsSlot, place_of_slot};
 ghost use Rattle.tardiness_bounds.specs.Standings.{IsStanding};
 ghost use Rattle.tardiness_bounds.specs.Witnesses.{AreFull, HasNoPlace, IsFree, IsFreeNear, IsFull, IsFullNear, IsWitness};
 
-use crate::ground::first_clear;
-use crate::lattice::lattice_of;
-use crate::near::{Neighbour, Neighbours, near_to};
+use crate::ground::{ForbiddenColumns, first_clear};
+use crate::near::{Neighbour, near_to};
+use crate::scratch::Scratch;
 use crate::slot::Slot;
 use crate::standing::Standing;
 use crate::tables::YardTables;
-use arrayvec::ArrayVec;
 use code_table::Placement;
 
 /// A free placement of a block in its first slot that is not full, the number of this slot, and what it costs.
@@ -26,15 +23,14 @@ pub(crate) struct Witness {
     pub place: Placement,
 }
 
-/// The first placement of a block in a slot, in one turn, at or after the position of y and x, that is clear of what
-/// stands near.
-pub(crate) fn first_in_turn(
+/// The first placement of a block in a slot, in one turn, that is clear of what stands near.
+fn first_in_turn(
     tables: &YardTables<'_>,
     near: &[Neighbour],
     block: u8,
     slot: Slot,
     turn: u8,
-    from: (u16, u16),
+    forbidden: &mut ForbiddenColumns,
 ) -> Option<Placement>
     requires near { All (IsNeighbour tables.now.yard) near.now }
     requires few { length near.now ≤ 80 }
@@ -42,32 +38,27 @@ pub(crate) fn first_in_turn(
     requires slot { (b : Block) → slice_get tables.now.yard.blocks block ≡ Some b → IsSlot tables.now.yard b slot }
     requires turn { turn < 4 }
     requires allowed { (b : Block) → slice_get tables.now.yard.blocks block ≡ Some b → unwrap_or (slice_get b.turns turn) false ≡ true }
-    requires from { (p : Plate) → slice_get tables.now.yard.plates slot.plate ≡ Some p → AreMultiples p.pitch from.0 from.1 }
-    ensures none { IfNone result ((p : Placement) → p.turn ≡ turn → IsFreeNear tables.now.yard near.now block slot p → IsFrom from.0 from.1 p → ⊥) }
-    ensures some { IfSome result (λ p. IsFreeNear tables.now.yard near.now block slot p × (p.turn ≡ turn) × IsFrom from.0 from.1 p) }
-    ensures first { IfSome result (λ q. (p : Placement) → p.turn ≡ turn → IsFreeNear tables.now.yard near.now block slot p → IsFrom from.0 from.1 p
-        → IsFrom q.y q.x p) }
+    ensures none { IfNone result ((p : Placement) → p.turn ≡ turn → IsFreeNear tables.now.yard near.now block slot p → ⊥) }
+    ensures some { IfSome result (IsFreeNear tables.now.yard near.now block slot) }
 {
-    let codes = tables.codes();
-    let plates = codes.yard().plates();
-    let plate = &plates[slot.plate as usize];
-    let lattice = lattice_of(plate, codes.shape(block, turn));
-    let at = (from.0 / plate.pitch, from.1 / plate.pitch);
-    match first_clear(tables, near, block * 4 + turn, lattice, at) {
+    tables.codes().limits();
+    let moving = block * 4 + turn;
+    let lattice = tables.lattice(slot.plate, moving);
+    match first_clear(tables, near, moving, lattice, (0, 0), forbidden) {
         None => None,
         Some((row, column)) => Some(Placement {
             start: slot.start,
             end: slot.end,
             plate: slot.plate,
             turn,
-            y: row * plate.pitch,
-            x: column * plate.pitch,
+            y: row * lattice.pitch,
+            x: column * lattice.pitch,
         }),
     }
 }
 
 /// Whether the block may stand in the turn.
-pub(crate) fn may_turn(tables: &YardTables<'_>, block: u8, turn: u8) -> bool
+fn may_turn(tables: &YardTables<'_>, block: u8, turn: u8) -> bool
     requires block { block < length tables.now.yard.blocks }
     requires turn { turn < 4 }
     ensures { (b : Block) → slice_get tables.now.yard.blocks block ≡ Some b → result ≡ unwrap_or (slice_get b.turns turn) false }
@@ -82,6 +73,7 @@ fn first_in_slot(
     near: &[Neighbour],
     block: u8,
     slot: Slot,
+    forbidden: &mut ForbiddenColumns,
 ) -> Option<Placement>
     requires near { All (IsNeighbour tables.now.yard) near.now }
     requires few { length near.now ≤ 80 }
@@ -92,7 +84,7 @@ fn first_in_slot(
 {
     for turn in 0..4u8 {
         if may_turn(tables, block, turn) {
-            let found = first_in_turn(tables, near, block, slot, turn, (0, 0));
+            let found = first_in_turn(tables, near, block, slot, turn, forbidden);
             if found.is_some() {
                 return found;
             }
@@ -121,7 +113,7 @@ fn free_in(
     list: &[Standing],
     block: u8,
     slot: Slot,
-    near: &mut Neighbours,
+    scratch: &mut Scratch,
 ) -> Option<Placement>
     requires list { All (IsStanding tables.now.yard) list.now }
     requires few { length list.now ≤ 32 }
@@ -130,8 +122,9 @@ fn free_in(
     ensures none { IfNone result (IsFull tables.now.yard list.now block slot) }
     ensures some { IfSome result (IsFree tables.now.yard list.now block slot) }
 {
-    near_to(tables, list, place_of_slot(slot), near);
-    first_in_slot(tables, near.as_slice(), block, slot)
+    near_to(tables, list, place_of_slot(slot), &mut scratch.near);
+    let near = scratch.near.as_slice();
+    first_in_slot(tables, near, block, slot, &mut scratch.forbidden)
 }
 
 /// The witness of a block beside the blocks that stand. Its slots before `from` are full.
@@ -140,6 +133,7 @@ pub(crate) fn witness_from(
     list: &[Standing],
     block: u8,
     from: usize,
+    scratch: &mut Scratch,
 ) -> Option<Witness>
     requires list { All (IsStanding tables.now.yard) list.now }
     requires few { length list.now ≤ 32 }
@@ -149,10 +143,9 @@ pub(crate) fn witness_from(
     ensures some { IfSome result (IsWitness tables.now list.now block) }
 {
     let slots = tables.slots(block);
-    let mut near = ArrayVec::new();
     for i in from..slots.len() {
         let slot = slots[i];
-        if let Some(place) = free_in(tables, list, block, slot, &mut near) {
+        if let Some(place) = free_in(tables, list, block, slot, scratch) {
             return Some(Witness {
                 slot: i,
                 cost: slot.cost,

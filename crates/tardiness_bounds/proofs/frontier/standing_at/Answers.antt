@@ -1,7 +1,3 @@
-use Rattle.std.proofs.Common.{◌≡◌, ◌<◌, length, Some, sym, subst}
-use Rattle.std.specs.Prelude.{slice_get}
-use Rattle.shape_exact.specs.Yards.{PlainYard}
-use Rattle.code_table.specs.Placements.{placements}
 use Rattle.plan_rule.proofs.CountLaws.{block_exists, code_exists}
 use Rattle.tardiness_bounds.proofs.frontier.standing_at.Goals as goal
 

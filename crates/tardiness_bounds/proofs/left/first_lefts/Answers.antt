@@ -7,16 +7,16 @@ use Rattle.tardiness_bounds.specs.Lefts.{IsLeft}
 use Rattle.tardiness_bounds.proofs.NextLaws.{each_more}
 use Rattle.tardiness_bounds.proofs.left.first_lefts.Goals as goal
 
-pub left_from-requires-clause-block : goal.left_from-requires-clause-block
-left_from-requires-clause-block c =
+pub first_left-requires : goal.first_left-requires
+first_left-requires c =
     let e : blocks (choices c.codes-codes.result.now) ≡ blocks (choices c.args.tables.now.yard) = ap (λ y. blocks (choices y)) c.codes-codes.ensures in
     block_exists c.args.tables.now.yard c.loop-block.block (let v = c.block_count-block-end.ensures.value in omega arith)
 
 pub loop-block-preserved : goal.loop-block-preserved
 loop-block-preserved c = record {
-  len = ap length c.in_ok-push.ensures.items ∙ length-append c.loop-block.lefts.items (c.left_from.result ∷ []) ∙ ap (λ n. n + 1) c.loop-block.invariant.len;
-  each = each_more (IsLeft c.args.tables.now []) c.loop-block.lefts.items c.push.new.self.items c.left_from.result c.loop-block.block
-      c.loop-block.invariant.len c.loop-block.invariant.each c.left_from.ensures c.in_ok-push.ensures.items;
+  len = ap length c.in_ok-push.ensures.items ∙ length-append c.loop-block.lefts.items (c.first_left.result ∷ []) ∙ ap (λ n. n + 1) c.loop-block.invariant.len;
+  each = each_more (IsLeft c.args.tables.now []) c.loop-block.lefts.items c.push.new.self.items c.first_left.result c.loop-block.block
+      c.loop-block.invariant.len c.loop-block.invariant.each c.first_left.ensures c.in_ok-push.ensures.items;
   room = (let r = c.loop-block.invariant.room in let k = c.push.ensures.capacity in omega arith);
 }
 

@@ -9,5 +9,5 @@ abbrev pub invariant-loop-block : goal.invariant-loop-block
 invariant-loop-block l = record {
   len : length l.lefts.items ≡ l.block;
   each : (b : ℕ) (x : Left) → slice_get l.lefts.items b ≡ Some x → IsLeft l.tables [] b x;
-  room : 1056 ≤ vec_capacity l.lefts;
+  room : l.room ≤ vec_capacity l.lefts;
 }

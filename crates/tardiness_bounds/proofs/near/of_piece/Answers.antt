@@ -1,8 +1,6 @@
-use Rattle.std.proofs.Common.{◌≡◌, ◌+◌, ◌*◌, length, List, ap, sym, subst, ◌∙◌}
-use Rattle.shape_exact.specs.Yards.{IsYard, PlainYard}
-use Rattle.shape_exact.specs.declared.block.Block.{Block}
-use Rattle.tardiness_bounds.specs.declared.near.Neighbour.{Neighbour}
-use Rattle.tardiness_bounds.specs.Neighbours.{IsNeighbour, of_piece}
+use Rattle.std.proofs.Common.{sym, subst, ◌∙◌}
+use Rattle.shape_exact.specs.Yards.{IsYard}
+use Rattle.tardiness_bounds.specs.Neighbours.{IsNeighbour}
 use Rattle.tardiness_bounds.proofs.NearLaws.{made_piece, neighbour_piece}
 use Rattle.tardiness_bounds.proofs.near.of_piece.Goals as goal
 

@@ -1,5 +1,4 @@
-use Rattle.std.proofs.Common.{◌+◌, ◌∷◌, [], length, ap, ◌∙◌, length-append, arith}
-use Rattle.tardiness_bounds.specs.Tables.{AreStretches}
+use Rattle.std.proofs.Common.{◌+◌, ◌∷◌, [], length, ap, ◌∙◌, length-append}
 use Rattle.tardiness_bounds.proofs.TableLaws.{stretches_more}
 use Rattle.tardiness_bounds.proofs.tables.all_stretches.Goals as goal
 

@@ -1,7 +1,5 @@
-use Rattle.std.proofs.Common.{◌<◌, List, length, sym, subst, ◌∙◌}
+use Rattle.std.proofs.Common.{List, sym, subst, ◌∙◌}
 use Rattle.std.proofs.lemmas.Option.{same_Some}
-use Rattle.code_table.specs.declared.placement.Placement.{Placement}
-use Rattle.code_table.specs.Placements.{placements}
 use Rattle.plan_rule.specs.Boxes.{LeavesFree}
 use Rattle.plan_rule.specs.Bounds.{MayFit}
 use Rattle.plan_rule.specs.Choices.{IsCode}

@@ -1,4 +1,4 @@
-use Rattle.std.proofs.Common.{◌≡◌, ◌+◌, ◌<◌, ◌≤◌, List, length, sym, ap, subst, ◌∙◌, arith}
+use Rattle.std.proofs.Common.{◌<◌, ◌≤◌, List, length, sym, ap, subst, ◌∙◌, arith}
 use Rattle.tardiness_bounds.specs.declared.left.Left.{Left}
 use Rattle.tardiness_bounds.specs.Stacks.{PlainFrontier}
 use Rattle.tardiness_bounds.proofs.StackLaws.{literals_length, stack_long, stack_pop}

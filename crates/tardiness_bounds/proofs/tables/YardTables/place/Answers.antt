@@ -1,10 +1,8 @@
-use Rattle.std.proofs.Common.{◌≡◌, ◌<◌, length, sym, ap, subst, ◌∙◌, arith, Some}
+use Rattle.std.proofs.Common.{◌≡◌, ◌<◌, length, sym, ap, subst, arith, Some}
 use Rattle.std.specs.Prelude.{slice_get}
-use Rattle.shape_exact.specs.Yards.{PlainYard}
 use Rattle.code_table.proofs.ReadLaws.{read_at}
 use Rattle.code_table.specs.Placements.{placements}
-use Rattle.tardiness_bounds.specs.declared.stretches.StretchList.{StretchList}
-use Rattle.tardiness_bounds.specs.Tables.{AreAllStretches, AreStretches, PlainTables}
+use Rattle.tardiness_bounds.specs.Tables.{PlainTables}
 use Rattle.tardiness_bounds.proofs.tables.YardTables.place.Goals as goal
 
 pub bounds-stretches-block : goal.bounds-stretches-block
