@@ -30,8 +30,8 @@ pub struct Shown {
     pub tie: bool,
 }
 
-/// The fit of the box.
-fn fit_of(
+/// The fit of the box. Refused where memory is wanted.
+pub fn fit_of(
     alloc: Global,
     codes: &Codes,
     tables: &YardTables<'_>,

@@ -82,7 +82,7 @@ told_side c literals side b code told same tells = record { cost_is = tells.cost
 pub can_push : (yard : PlainYard) (job : Job) (side : List Literal) (needs : ℕ → Bool) (b code : ℕ) (view : SideView) → IsNode (choices yard) job side b code (code + 1)
     → IsView yard side needs b view → CanPush view.front b code
 can_push yard job side needs b code view node is = record {
-  is_code = subst (λ y. IsCode (choices y) b code) (sym is.yard_is) (node.block, elim node.range [ | inl (some, inside) ↦ omega arith | inr (low, none, empty) ↦ absurd (omega arith) ]);
+  is_code = subst (λ y. IsCode (choices y) b code) (sym is.yard_is) (node.block, elim node.range [ inl (some, inside) ↦ omega arith | inr (low, none, empty) ↦ absurd (omega arith) ]);
   free = λ k d within.
       All-contains (λ l. l.block ≢ b) side (get_or view.front.literals k d) node.free (is.inside k d within);
 }

@@ -129,7 +129,8 @@ fn score_of(
     count.saturating_add(between(hints.levels(block), slack, top))
 }
 
-/// The block with the fewest records of its own; of several the first. A block without a child at once. The box leaves `first` open.
+/// The block with the fewest records of its own; of several the first. A block without a child at once. The box leaves
+/// `first` open.
 fn fewest(
     codes: &Codes,
     front: &Frontier<'_>,

@@ -397,7 +397,8 @@ pub(crate) fn along<B: Bars>(
         hi: range.hi,
     };
     let above = settle_range(
-        alloc, codes, tables, job, bars, best, log, store, hints, side, upper, &mut needs, &mut view,
+        alloc, codes, tables, job, bars, best, log, store, hints, side, upper, &mut needs,
+        &mut view,
     )?;
     let lower = Literal {
         block: range.block,
@@ -405,7 +406,8 @@ pub(crate) fn along<B: Bars>(
         hi: code,
     };
     let below = settle_range(
-        alloc, codes, tables, job, bars, best, log, store, hints, side, lower, &mut needs, &mut view,
+        alloc, codes, tables, job, bars, best, log, store, hints, side, lower, &mut needs,
+        &mut view,
     )?;
     let cites = cites_of(alloc, own.covered.cite, above.cite, below.cite)?;
     let tie = own.covered.tie | above.tie | below.tie;

@@ -13,34 +13,20 @@ ghost use Rattle.branch_search.specs.Fits.{HasLowFit, IsBeatenSide};
 
 use crate::Hints;
 use crate::choose::{number_of, wanted};
-use branch_kernel::{Bars, Blocks, Shown, beats, copy, keep, keep_box, write_fit};
+use branch_kernel::{Bars, Blocks, Shown, beats, copy, fit_of, keep, keep_box, write_fit};
 use code_table::Codes;
 use nogood_store::Nogoods;
 use plan_rule::{Job, Plan, PlanBox};
 use refutation_log::Log;
 use shape_exact::NoMemory;
 use std::alloc::Global;
-use tardiness_bounds::{Bound, Frontier, YardTables, fit_among};
+use tardiness_bounds::{Frontier, YardTables};
 
 /// A box, and whether its fit beats it by a tie.
 #[derive(Drop)]
 pub(crate) struct Beaten {
     pub side: PlanBox,
     pub tie: bool,
-}
-
-/// The fit of the box.
-fn fit_of(
-    alloc: Global,
-    codes: &Codes,
-    tables: &YardTables<'_>,
-    part: &PlanBox,
-) -> Result<Bound, NoMemory>
-    requires tables { tables.now.yard ≡ codes.now }
-    requires part { IsBox (choices codes.now) part.now }
-    ensures { IfOk result (λ bound. IsFit (choices codes.now) part.now (number bound)) }
-{
-    fit_among(alloc, tables, part)
 }
 
 /// The fit of the literals of one code on these blocks.
