@@ -34,7 +34,7 @@ returns c =
     subst (λ (p : PlainFrontier). IsCode (choices p.yard) c.args.block c.args.code) (sym c.self.view_is) c.requires.is_code in
     let free : LeavesFree (literals_of c.self.inside.list.items) c.args.block =
     subst (λ (p : PlainFrontier). LeavesFree p.literals c.args.block) (sym c.self.view_is) c.requires.free in
-    subst (λ (p : PlainFrontier). TellsBeside (choices p.yard) p.literals c.args.block c.args.code (record {cost = c.cost_on-cost.result; hindrance = c.what_hinders-hindrance.result})) c.self.view_is
+    subst (λ (p : PlainFrontier). TellsBeside (choices p.yard) p.literals c.args.block c.args.code (record { cost = c.cost_on-cost.result; hindrance = c.what_hinders-hindrance.result })) c.self.view_is
     (record {
       cost_is = c.cost_on-cost.ensures.value
           ∙ sym (cost_is_at c.self.inside.tables.now.yard c.args.block c.args.code c.block_at.result.now c.place-place.result
