@@ -1,13 +1,13 @@
 -- What is kept of a side holds on while more is needed, and covers dear codes.
-use Rattle.std.proofs.Common.{◌≡◌, ◌≢◌, ℕ, ◌+◌, ◌^◌, ◌<◌, ◌≤◌, List, [], Bool, true, false, Option, Some, None, refl, sym, ap, ◌∙◌, subst, inl, inr, arith, length, get_or}
-use Rattle.std.specs.Prelude.{All, Contains, IfSome}
+use Rattle.std.proofs.Common.{◌≡◌, ◌≢◌, ℕ, ◌+◌, ◌<◌, ◌≤◌, List, [], Bool, true, false, Option, Some, None, sym, ap, ◌∙◌, subst, inl, inr, arith, get_or}
+use Rattle.std.specs.Prelude.{All, IfSome}
 use Rattle.std.proofs.lemmas.List.Elements.{All-contains}
 use Rattle.common_lists.proofs.ListLaws.{some_weaker}
 use Rattle.shape_exact.specs.Yards.{PlainYard}
 use Rattle.plan_rule.specs.declared.literal.Literal.{Literal}
 use Rattle.plan_rule.specs.declared.job.Job.{Job}
 use Rattle.plan_rule.specs.Choices.{Choices, IsCode, blocks, count}
-use Rattle.plan_rule.specs.Boxes.{HasExact, IsBox, LeavesFree, exact, with_literal}
+use Rattle.plan_rule.specs.Boxes.{IsBox, LeavesFree, exact, with_literal}
 use Rattle.plan_rule.specs.Bounds.{IsBase}
 use Rattle.plan_rule.specs.Yards.{choices}
 use Rattle.tardiness_bounds.specs.declared.beside.Beside.{Beside}

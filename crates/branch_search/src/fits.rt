@@ -1,12 +1,10 @@
 //! Boxes that their fit refutes, and the literals that it needs.
-ghost use Rattle.std.specs.Prelude.{◌≡◌, ◌+◌, ◌<◌, ◌≤◌, ◌/◌, ◌^◌, ℕ, Some, All, Contains, IfOk, IfSome, MatchOption, Option, length};
+ghost use Rattle.std.specs.Prelude.{◌≡◌, ◌+◌, ◌<◌, ◌/◌, ◌^◌, Some, IfOk, IfSome, MatchOption, Option, length};
 ghost use Rattle.plan_rule.specs.Boxes.{IsBox};
-ghost use Rattle.plan_rule.specs.Bounds.{IsFit};
 ghost use Rattle.plan_rule.specs.Yards.{choices};
 ghost use Rattle.tardiness_bounds.specs.Numbers.{number};
 ghost use Rattle.branch_kernel.specs.Known.{AreKnown};
-ghost use Rattle.branch_kernel.specs.Rivals.{Beats};
-ghost use Rattle.branch_kernel.specs.States.{IsHeld, relied, state};
+ghost use Rattle.branch_kernel.specs.States.{IsHeld, state};
 ghost use Rattle.branch_kernel.specs.Growth.{IsReady, Runs};
 ghost use Rattle.branch_kernel.specs.Shows.{IsShown};
 ghost use Rattle.branch_search.specs.Fits.{HasLowFit, IsBeatenSide};

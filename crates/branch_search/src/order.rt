@@ -1,6 +1,5 @@
 //! In which order the codes of a range are settled.
 ghost use Rattle.std.specs.Prelude.{◌≡◌, ◌<◌, ◌≤◌, ℕ, All, Contains, IfOk, length, true};
-ghost use Rattle.plan_rule.specs.Boxes.{LeavesFree};
 ghost use Rattle.plan_rule.specs.Choices.{blocks};
 ghost use Rattle.plan_rule.specs.Yards.{choices};
 

@@ -1,6 +1,6 @@
 //! What a code of a block comes to beside blocks that stand.
-ghost use Rattle.std.specs.Prelude.{◌≡◌, ◌<◌, ◌≤◌, ℕ, All, MatchOption, length, slice_get, Some};
-ghost use Rattle.tardiness_bounds.specs.Standings.{ClashesAt, IsStanding, MeetsAt};
+ghost use Rattle.std.specs.Prelude.{◌<◌, All, MatchOption, length, Some};
+ghost use Rattle.tardiness_bounds.specs.Standings.{ClashesAt, IsStanding};
 ghost use Rattle.tardiness_bounds.specs.Besides.{ClashesBeside, IsHinderedAt};
 
 use crate::clear::meets_some;

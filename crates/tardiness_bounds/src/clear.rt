@@ -1,5 +1,5 @@
 //! Whether a block at a placement is clear of the blocks that stand and of the pieces.
-ghost use Rattle.std.specs.Prelude.{◌≡◌, ◌≤◌, ◌<◌, ◌↔◌, ℕ, All, IsTrue, Some, length, slice_get, true, false};
+ghost use Rattle.std.specs.Prelude.{◌≡◌, ◌<◌, ◌↔◌, ℕ, All, IsTrue, Some, length, slice_get, true, false};
 ghost use Rattle.shape_exact.specs.declared.fixed.Fixed.{Fixed};
 ghost use Rattle.tardiness_bounds.specs.Standings.{ClashesAt, IsClear, IsStanding, MeetsAt};
 

@@ -1,5 +1,5 @@
 //! The fit of a box.
-ghost use Rattle.std.specs.Prelude.{◌≡◌, IfOk};
+ghost use Rattle.std.specs.Prelude.{IfOk};
 ghost use Rattle.plan_rule.specs.Boxes.{IsBox};
 ghost use Rattle.plan_rule.specs.Bounds.{IsFit};
 ghost use Rattle.plan_rule.specs.Yards.{choices};

@@ -1,5 +1,5 @@
 //! What is left to each block beside blocks that stand.
-ghost use Rattle.std.specs.Prelude.{◌≡◌, ◌<◌, ◌≤◌, ◌+◌, ◌↔◌, ◌++◌, ◌∷◌, [], ℕ, All, IfOk, IsTrue, length, take, vec_capacity};
+ghost use Rattle.std.specs.Prelude.{◌≡◌, ◌<◌, ◌≤◌, ◌+◌, ◌↔◌, [], All, IfOk, IsTrue, length, take, vec_capacity};
 ghost use Rattle.plan_rule.specs.Boxes.{LeavesFree};
 ghost use Rattle.tardiness_bounds.specs.Standings.{IsStanding, ClashesAt, literals_of};
 ghost use Rattle.tardiness_bounds.specs.Witnesses.{AreFull};

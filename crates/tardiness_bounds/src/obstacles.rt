@@ -1,6 +1,6 @@
 //! The obstacles between the footprints of a yard.
 ghost use Rattle.std.specs.Prelude.{◌≡◌, ◌<◌, IfOk};
-ghost use Rattle.tardiness_bounds.specs.Footprints.{footprint_at, footprint_count, pair_at, turned_count};
+ghost use Rattle.tardiness_bounds.specs.Footprints.{footprint_at, footprint_count, pair_at};
 ghost use Rattle.tardiness_bounds.specs.Obstacles.{AreObstacles};
 
 use code_table::Codes;

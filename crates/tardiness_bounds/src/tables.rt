@@ -1,6 +1,5 @@
 //! What is made once of a yard to find free tables.
-ghost use Rattle.std.specs.Prelude.{◌≡◌, ◌<◌, ◌≤◌, ℕ, pos, ◌-ℤ◌, Some, [], length, slice_get, IfOk, IfSome};
-ghost use Rattle.shape_exact.specs.Yards.{PlainYard};
+ghost use Rattle.std.specs.Prelude.{◌≡◌, ◌<◌, ◌≤◌, pos, ◌-ℤ◌, Some, [], length, slice_get, IfOk, IfSome};
 ghost use Rattle.shape_exact.specs.declared.block.Block.{Block};
 ghost use Rattle.code_table.specs.Placements.{placements};
 ghost use Rattle.tardiness_bounds.specs.Footprints.{footprint_count, pair_at, turned_count};

@@ -1,5 +1,5 @@
 //! A walk over the free codes of a block.
-ghost use Rattle.std.specs.Prelude.{◌≡◌, ◌<◌, ◌≤◌, ◌+◌, ◌*◌, ◌-◌, ℕ, All, IfNone, IfSome, Some, true, false, length, slice_get};
+ghost use Rattle.std.specs.Prelude.{◌≡◌, ◌<◌, ◌≤◌, ◌+◌, ◌*◌, ◌-◌, All, IfNone, IfSome, Some, true, false, length, slice_get};
 ghost use Rattle.shape_exact.specs.Yards.{IsBlock};
 ghost use Rattle.shape_exact.specs.declared.block.Block.{Block};
 ghost use Rattle.code_table.specs.Placements.{cost_on, placements};

@@ -1,5 +1,5 @@
 //! The cheapest free placement of a block beside blocks that stand and pieces.
-ghost use Rattle.std.specs.Prelude.{◌≡◌, ◌<◌, ◌≤◌, ℕ, All, IfNone, IfSome, length, slice_get, unwrap_or, Some, true, false};
+ghost use Rattle.std.specs.Prelude.{◌≡◌, ◌<◌, ◌≤◌, All, IfNone, IfSome, length, slice_get, unwrap_or, Some, true, false};
 ghost use Rattle.shape_exact.specs.declared.block.Block.{Block};
 ghost use Rattle.code_table.specs.declared.placement.Placement.{Placement};
 ghost use Rattle.tardiness_bounds.specs.Neighbours.{IsNeighbour};

@@ -1,15 +1,8 @@
-use Rattle.std.proofs.Common.{◌≡◌, ◌≤◌, sym, ap, ◌∙◌, subst, arith}
-use Rattle.common_lists.proofs.ListLaws.{match_some, some_weaker}
+use Rattle.std.proofs.Common.{sym, subst}
 use Rattle.plan_rule.specs.Boxes.{IsBox}
-use Rattle.plan_rule.specs.Choices.{Choices}
 use Rattle.plan_rule.specs.Yards.{choices}
-use Rattle.tardiness_bounds.specs.Numbers.{number}
 use Rattle.branch_kernel.specs.Marks.{has}
-use Rattle.branch_kernel.specs.States.{relied}
 use Rattle.branch_kernel.proofs.DropLaws.{kept_box}
-use Rattle.branch_search.specs.declared.view.Dear.{Dear}
-use Rattle.branch_search.specs.Floors.{BeatsFrom}
-use Rattle.branch_search.specs.Views.{IsDear}
 use Rattle.branch_search.proofs.FloorLaws.{kept_base, short_part}
 use Rattle.branch_search.proofs.ViewLaws.{dear_handles, dear_new, needed_clash}
 use Rattle.branch_search.proofs.covering.kept_covers.Goals as goal

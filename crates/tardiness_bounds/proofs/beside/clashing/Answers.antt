@@ -1,4 +1,4 @@
-use Rattle.std.proofs.Common.{◌≡◌, ◌+◌, refl, sym, ap, ◌∙◌, subst, take}
+use Rattle.std.proofs.Common.{◌+◌, refl, sym, ap, ◌∙◌, subst, take}
 use Rattle.std.specs.Prelude.{All, MatchOption, not}
 use Rattle.std.specs.Option.{is_some}
 use Rattle.std.proofs.lemmas.Bool.{false≢true}

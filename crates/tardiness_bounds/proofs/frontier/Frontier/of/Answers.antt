@@ -4,10 +4,8 @@ use Rattle.std.proofs.lemmas.Bool.{iff_false}
 use Rattle.std.proofs.lemmas.List.{take_all}
 use Rattle.std.proofs.lemmas.Option.{slice_get-get_or}
 use Rattle.plan_rule.specs.declared.literal.Literal.{Literal}
-use Rattle.plan_rule.specs.Bounds.{IsFit}
 use Rattle.plan_rule.specs.Boxes.{exact_code}
 use Rattle.plan_rule.specs.Yards.{choices}
-use Rattle.tardiness_bounds.specs.Numbers.{number}
 use Rattle.tardiness_bounds.specs.Stacks.{PlainFrontier}
 use Rattle.tardiness_bounds.proofs.SameLaws.{AreExacts, exacts_inside, exacts_more, exacts_none, exacts_past, may_push, one_code}
 use Rattle.tardiness_bounds.proofs.frontier.Frontier.of.Goals as goal
