@@ -132,6 +132,7 @@ fn divide<B: Bars>(
         (node_box (choices codes.now) side.now range.block range.lo range.hi)) }
 {
     hints.note_rank(range.block, side.literals().len());
+    let block = range.block;
     let mut view = view_of(alloc, &*tables, side)?;
     let order = order_of(alloc, codes, &view.front, hints, range)?;
     let mut cites = Vec::new(alloc);
@@ -141,21 +142,8 @@ fn divide<B: Bars>(
         let code = order.list[at];
         hints.note_code(at < order.first, range.block, code, &needs);
         let settled = settle(
-            alloc,
-            codes,
-            tables,
-            job,
-            bars,
-            best,
-            log,
-            store,
-            hints,
-            side,
-            range.block,
-            code,
-            &mut needs,
-            &mut view,
-            false,
+            alloc, codes, tables, job, bars, best, log, store, hints, side, block, code,
+            &mut needs, &mut view, false,
         )?;
         let covered = settled.covered;
         if settled.jumps {
@@ -374,22 +362,10 @@ pub(crate) fn along<B: Bars>(
     };
     let mut needs = Blocks::none();
     let mut view = view_of(alloc, &*tables, side)?;
+    let block = range.block;
     let own = settle(
-        alloc,
-        codes,
-        tables,
-        job,
-        bars,
-        best,
-        log,
-        store,
-        hints,
-        side,
-        range.block,
-        code,
-        &mut needs,
-        &mut view,
-        true,
+        alloc, codes, tables, job, bars, best, log, store, hints, side, block, code, &mut needs,
+        &mut view, true,
     )?;
     let upper = Literal {
         block: range.block,
