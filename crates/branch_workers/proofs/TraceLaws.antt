@@ -259,10 +259,10 @@ named_exists c (Branch b lo hi side cites) h = h.0
 named_exists c (Fit side) h = tt
 named_exists c (Energy from to side) h = tt
 
--- what a log that is proper and a report that is proved are for the taking
+-- a log that is proper can be taken
 pub can_be_taken : (c : Choices) (ws : List Worker) → All (IsHonest c) ws → All CanBeTaken ws
 can_be_taken c ws all = All-weaker (IsHonest c) CanBeTaken
-    (λ w h. ((λ i r at. (h.logged.proper i r (omega arith) at).earlier), All-weaker (IsProved c w.log) (λ (r : Report). (r.refutation ≡ 0) ⊎ (r.refutation < length w.log)) (λ r p. p.number) w.reports h.logged.proved)) ws all
+    (λ w h i r at. (h.logged.proper i r (omega arith) at).earlier) ws all
 
 -- the logs of all, put together
 pub collected : (yard : PlainYard) (ws : List Worker) (all : List Report) (log : List Record) (leaves : List Leaf) → All (IsHonest (choices yard)) ws → AreTaken [] [] ws log leaves

@@ -1,5 +1,5 @@
 -- A worker's log and reports, taken into one log and one list of leaves.
-use Rattle.std.specs.Prelude.{◌≡◌, ℕ, ◌+◌, ◌<◌, ◌⊎◌, List, length, map, All, Option}
+use Rattle.std.specs.Prelude.{◌≡◌, ℕ, ◌+◌, List, map, All, Option}
 use Rattle.std.specs.List.{sum_by}
 use Rattle.branch_core.specs.declared.report.Report.{Report}
 use Rattle.shape_exact.specs.Yards.{PlainYard}
@@ -28,15 +28,13 @@ abbrev pub KeepsLeaves : List Record → List Record → List Record → List Le
 KeepsLeaves log own whole old reports new =
     (yard : PlainYard) → AreLeaves (choices yard) log old → AreShown (choices yard) own reports → AreLeaves (choices yard) whole new
 
+-- where the block of each record of both logs exists, so does that of each of the whole
 abbrev pub KeepsExisting : List Record → List Record → List Record → Type 0
 KeepsExisting log own whole = (yard : PlainYard) → AllExist (choices yard) log → AllExist (choices yard) own → AllExist (choices yard) whole
 
-abbrev pub KeepsAllSteps : List Record → List Record → List Record → Type 0
-KeepsAllSteps log own whole = (yard : PlainYard) (t : Option (List ℕ)) → AreSteps (choices yard) t log → AreSteps (choices yard) t own → AreSteps (choices yard) t whole
-
--- the worker's log can be appended to another one
+-- the worker's log can be taken into another one
 abbrev pub CanBeTaken : Worker → Type 0
-CanBeTaken w = CiteEarlier w.log × All (λ (r : Report). (r.refutation ≡ 0) ⊎ (r.refutation < length w.log)) w.reports
+CanBeTaken w = CiteEarlier w.log
 
 -- The workers' logs and reports are taken: each path number has gained a leaf for each report that has it, and what
 -- holds of the log and of each worker's holds of the whole.
