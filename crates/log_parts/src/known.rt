@@ -54,7 +54,7 @@ fn mark_of(entry: &Record) -> u64 {
         mark = mixed(mark, *literal);
     }
     match range_of(entry) {
-        Some(range) => mixed(mark.rotate_left(7), range),
+        Some(range) => mixed(!mark, range),
         None => mark,
     }
 }
