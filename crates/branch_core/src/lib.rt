@@ -20,6 +20,3 @@ pub use planning::{Planned, plan_with_log};
 pub use proper::records_are_proper;
 pub use report::Report;
 pub use solving::{solve, solve_with};
-
-#[cfg(test)]
-mod tests;

@@ -24,6 +24,3 @@ pub use marks::Blocks;
 pub use plans::take_plan;
 pub use records::{add_result, keep_box, names, write_branch, write_energy, write_fit};
 pub use steps::{Shown, bounded, close, fit_of};
-
-#[cfg(test)]
-mod tests;

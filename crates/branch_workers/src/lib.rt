@@ -23,6 +23,3 @@ mod working;
 pub use crewed::{Crewed, crew};
 pub use worker::{Capsules, Reports, Worker};
 pub use working::work;
-
-#[cfg(test)]
-mod tests;

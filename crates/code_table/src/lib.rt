@@ -17,8 +17,6 @@ mod spot;
 mod stand;
 mod stretch;
 mod table;
-#[cfg(test)]
-mod tests;
 
 pub use codes::Codes;
 pub use cost::cost_on;

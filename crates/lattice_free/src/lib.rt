@@ -15,6 +15,3 @@ pub use columns::{columns_between, steps};
 pub use forbidden::{Forbidden, forbidden_of};
 pub use free_points::FreePoints;
 pub use free_rows::FreeRows;
-
-#[cfg(test)]
-mod tests;

@@ -10,6 +10,3 @@ mod united;
 pub use cut::derivation;
 pub use known::Known;
 pub use united::unite;
-
-#[cfg(test)]
-mod tests;

@@ -20,6 +20,3 @@ mod waits;
 
 pub use nogood::Nogood;
 pub use nogoods::Nogoods;
-
-#[cfg(test)]
-mod tests;

@@ -15,8 +15,6 @@ mod names;
 mod print;
 mod reading;
 mod rows;
-#[cfg(test)]
-mod tests;
 mod told;
 
 pub use fault::PlanFault;

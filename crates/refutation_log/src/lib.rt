@@ -12,8 +12,6 @@ mod lists;
 mod log;
 mod reading;
 mod record;
-#[cfg(test)]
-mod tests;
 mod writing;
 
 pub use capsule::Capsule;

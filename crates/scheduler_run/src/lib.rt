@@ -16,6 +16,3 @@ mod yard_text;
 
 pub use status::Status;
 pub use top_call::{run, run_quietly};
-
-#[cfg(test)]
-mod tests;

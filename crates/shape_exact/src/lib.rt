@@ -36,6 +36,3 @@ pub use point::Point;
 pub use separation::{apart, separates};
 pub use shape::{Shape, ShapeFault};
 pub use yard::Yard;
-
-#[cfg(test)]
-mod tests;

@@ -126,6 +126,3 @@ pub fn apart(a: &Shape, at_a: Point, b: &Shape, at_b: Point) -> bool
     let back = shift_from(at_b, at_a);
     has_separating_edge(first, second, there) || has_separating_edge(second, first, back)
 }
-
-#[cfg(test)]
-mod tests;

@@ -15,6 +15,3 @@ pub use deques::{Tally, deque, done};
 pub use laws::{idle_owners_leave_none, jobs_are_taken_once};
 pub use owner::Owner;
 pub use reach::{Reach, Stolen};
-
-#[cfg(test)]
-mod tests;

@@ -18,7 +18,6 @@ mod MarkLaws
 pub mod SameLaws
 mod CheapLaws
 mod PigeonLaws
-mod BoxLaws
 mod StandLaws
 mod WalkLaws
 mod FreeCodesLaws

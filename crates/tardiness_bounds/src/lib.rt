@@ -44,6 +44,3 @@ pub use fit_of::{fit, fit_among};
 pub use free_codes::FreeCodes;
 pub use frontier::Frontier;
 pub use tables::YardTables;
-
-#[cfg(test)]
-mod tests;

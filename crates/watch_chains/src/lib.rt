@@ -10,6 +10,3 @@ mod chains;
 mod nodes;
 
 pub use chains::Chains;
-
-#[cfg(test)]
-mod tests;

@@ -20,8 +20,6 @@ mod place;
 mod plates;
 mod reader;
 mod sizes;
-#[cfg(test)]
-mod tests;
 mod turns;
 mod value;
 

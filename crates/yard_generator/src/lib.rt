@@ -12,6 +12,3 @@ mod yards;
 
 pub use drawn::drawn_yard;
 pub use yards::generate;
-
-#[cfg(test)]
-mod tests;

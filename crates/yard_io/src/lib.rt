@@ -29,6 +29,3 @@ pub use real::RealDesk;
 pub use saying::say_all;
 pub use trouble::Trouble;
 pub use writing::write_file;
-
-#[cfg(test)]
-mod tests;
