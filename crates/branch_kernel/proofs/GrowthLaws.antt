@@ -28,7 +28,7 @@ use Rattle.branch_kernel.specs.Clean.{Leads, IsClean, StoreSettles, StoreIsClean
 use Rattle.branch_kernel.specs.Stored.{IsTagged, IsStored, IsFresh, IsBoxHit}
 use Rattle.branch_kernel.specs.Unbeaten.{IsAsked}
 use Rattle.branch_kernel.specs.Shows.{IsAnswered, IsHandled, AreCited}
-use Rattle.branch_kernel.specs.Growth.{Grows}
+use Rattle.branch_kernel.specs.Growth.{Grows, Ends}
 use Rattle.branch_kernel.proofs.RivalLaws.{rival_later, settled_later, later_trans, later_self, later_none}
 use Rattle.branch_kernel.proofs.CoverLaws.{covers_self, covers_trans, exist-box}
 
@@ -200,13 +200,19 @@ fresh_tagged c old log e f = record {
   part_is = f.part_is;
 }
 
+-- boxes that were stored, with those that were added, are stored boxes of the grown log
+stored_more : (c : Choices) (old new : List Record) (store store' : List Nogood) → (added : List Record) × (new ≡ old ++ added)
+    → (boxes : List Nogood) × (store' ≡ store ++ boxes) × All (IsFresh c (length old) new) boxes → IsStored c old store → IsStored c new store'
+stored_more c old new store store' (added, e) (boxes, f, fresh) h =
+    subst (IsStored c new) (sym f) (All-append (IsTagged c new) store boxes
+    (subst (λ log. IsStored c log store) (sym e) (All-weaker (IsTagged c old) (IsTagged c (old ++ added)) (tagged_more c old added) store h))
+    (All-weaker (IsFresh c (length old) new) (IsTagged c new) (fresh_tagged c (length old) new) boxes fresh))
+
 pub stored_later : (c : Choices) (s s' : State) → Grows c s s' → IsStored c s.log s.store → IsStored c s'.log s'.store
-stored_later c s s' g h =
-    let (more, e) = g.more in
-    let (added, f, fresh) = g.stored in
-    subst (IsStored c s'.log) (sym f) (All-append (IsTagged c s'.log) s.store added
-    (subst (λ log. IsStored c log s.store) (sym e) (All-weaker (IsTagged c s.log) (IsTagged c (s.log ++ more)) (tagged_more c s.log more) s.store h))
-    (All-weaker (IsFresh c (length s.log) s'.log) (IsTagged c s'.log) (fresh_tagged c (length s.log) s'.log) added fresh))
+stored_later c s s' g = stored_more c s.log s'.log s.store s'.store g.more g.stored
+
+pub stored_ends : (c : Choices) (s s' : State) → Ends c s s' → IsStored c s.log s.store → IsStored c s'.log s'.store
+stored_ends c s s' ends = stored_more c s.log s'.log s.store s'.store ends.more ends.stored
 
 -- a record is pushed that every rival finds a step
 pub grows_add : (c : Choices) (s : State) (bar : ℕ) (best : Option (List ℕ)) (log : List Record) (store : List Nogood) (r : Record) → s.bar < 2 ^ 64

@@ -1,5 +1,5 @@
 -- How a code of a block is covered beside a side.
-use Rattle.std.specs.Prelude.{◌≡◌, ℕ, ◌+◌, Bool, List, option_to_list}
+use Rattle.std.specs.Prelude.{◌≡◌, ℕ, ◌+◌, ◌<◌, ◌≤◌, Bool, List, option_to_list}
 use Rattle.plan_rule.specs.declared.literal.Literal.{Literal}
 use Rattle.plan_rule.specs.declared.job.Job.{Job}
 use Rattle.plan_rule.specs.Choices.{Choices}
@@ -19,6 +19,13 @@ use Rattle.branch_kernel.specs.Shows.{IsHandledBy, IsShown, AreCited}
 abbrev pub CoversCode : Choices → State → State → List Literal → (ℕ → Bool) → ℕ → ℕ → Covered → Type 0
 CoversCode c start now side needs b code r =
     IsHandledBy c start now r.tie side needs (option_to_list r.cite) b code × AreCited c start now r.tie (option_to_list r.cite)
+
+-- each code of the range is handled so, and what is cited for the range is an earlier record
+abbrev pub CoversRange : Choices → State → State → List Literal → (ℕ → Bool) → Literal → Covered → Type 0
+CoversRange c start now side needs range r =
+    ((code : ℕ) → range.lo ≤ code → code < range.hi
+    → IsHandledBy c start now r.tie side needs (option_to_list r.cite) range.block code)
+    × AreCited c start now r.tie (option_to_list r.cite)
 
 -- wherever a search stands that has these stored boxes, the code is covered
 abbrev pub CoversFrom : Choices → Job → List Nogood → List Literal → (ℕ → Bool) → ℕ → ℕ → Covered → Type 0

@@ -50,6 +50,11 @@ pub record AreCited (c : Choices) (start state : State) (tie : Bool) (cites : Li
   pub earlier : All (λ k. k < length state.log) cites
   pub clean : StoreIsClean c start → tie ≡ false → All (IsClean c state.bar state.log) cites
 
+-- the log's last record is this one, and it shows the box
+abbrev pub IsShownLast : Choices → State → State → List Literal → Shown → Type 0
+IsShownLast c start now box shown =
+    (shown.number + 1 ≡ length now.log) × IsShown c start now shown.tie shown.number box
+
 -- of none: no record was written, and the bounds leave the box open; else one record was, and it shows the box
 abbrev pub TellsBounded : Choices → State → State → List Literal → Option Shown → Type 0
 TellsBounded c start now box found =

@@ -1,3 +1,4 @@
 pub mod Fits
 pub mod Floors
+pub mod Jumping
 pub mod Views

@@ -9,8 +9,9 @@ ghost use Rattle.branch_kernel.specs.Marks.{has};
 ghost use Rattle.branch_kernel.specs.Nodes.{IsNode, IsOpenBox};
 ghost use Rattle.branch_kernel.specs.Unbeaten.{IsAskedSide};
 ghost use Rattle.branch_kernel.specs.Growth.{IsReady, Runs};
-ghost use Rattle.branch_kernel.specs.Shows.{AreCited, IsHandledBy, IsShown};
-ghost use Rattle.branch_kernel.specs.Covers.{CoversCode};
+ghost use Rattle.branch_kernel.specs.Shows.{IsShownLast};
+ghost use Rattle.branch_kernel.specs.Covers.{CoversCode, CoversRange};
+ghost use Rattle.branch_search.specs.Jumping.{Jumps};
 ghost use Rattle.branch_search.specs.Views.{IsView};
 
 use crate::Hints;
@@ -66,9 +67,8 @@ fn settle<B: Bars>(
     ensures view { IsView codes.now side.now (has needs.new) block view.new }
     ensures covered { IfOk result (λ r. CoversCode (choices codes.now) (state (B.bar bars.old) best.old log.old store.old)
         (state (B.bar bars.new) best.new log.new store.new) side.now (has needs.new) block code r.covered) }
-    ensures jumped { IfOk result (λ r. r.jumps ≡ true → (k : ℕ) → r.covered.cite ≡ Some k → (k + 1 ≡ length log.new)
-        × IsShown (choices codes.now) (state (B.bar bars.old) best.old log.old store.old)
-        (state (B.bar bars.new) best.new log.new store.new) r.covered.tie k side.now) }
+    ensures jumped { IfOk result (Jumps (choices codes.now) (state (B.bar bars.old) best.old log.old store.old)
+        (state (B.bar bars.new) best.new log.new store.new) side.now) }
 {
     let child = match cover_known(
         alloc, codes, job, bars, best, log, store, hints, side, block, code, needs, view,
@@ -126,10 +126,8 @@ fn divide<B: Bars>(
     ensures runs { Runs (choices codes.now) job (state (B.bar bars.old) best.old log.old store.old)
         (state (B.bar bars.new) best.new log.new store.new) }
     ensures prefix { store.new.prefix ≡ store.old.prefix }
-    ensures shown { IfOk result (λ shown. (shown.number + 1 ≡ length log.new)
-        × IsShown (choices codes.now) (state (B.bar bars.old) best.old log.old store.old)
-        (state (B.bar bars.new) best.new log.new store.new) shown.tie shown.number
-        (node_box (choices codes.now) side.now range.block range.lo range.hi)) }
+    ensures shown { IfOk result (IsShownLast (choices codes.now) (state (B.bar bars.old) best.old log.old store.old)
+        (state (B.bar bars.new) best.new log.new store.new) (node_box (choices codes.now) side.now range.block range.lo range.hi)) }
 {
     hints.note_rank(range.block, side.literals().len());
     let block = range.block;
@@ -187,9 +185,8 @@ pub(crate) fn refute<B: Bars>(
     ensures runs { Runs (choices codes.now) job (state (B.bar bars.old) best.old log.old store.old)
         (state (B.bar bars.new) best.new log.new store.new) }
     ensures prefix { store.new.prefix ≡ store.old.prefix }
-    ensures shown { IfOk result (λ shown. (shown.number + 1 ≡ length log.new)
-        × IsShown (choices codes.now) (state (B.bar bars.old) best.old log.old store.old)
-        (state (B.bar bars.new) best.new log.new store.new) shown.tie shown.number part.now) }
+    ensures shown { IfOk result (IsShownLast (choices codes.now) (state (B.bar bars.old) best.old log.old store.old)
+        (state (B.bar bars.new) best.new log.new store.new) part.now) }
 {
     hints.enter();
     if let Some(shown) = fitted(
@@ -232,9 +229,8 @@ fn deeper<B: Bars>(
     ensures runs { Runs (choices codes.now) job (state (B.bar bars.old) best.old log.old store.old)
         (state (B.bar bars.new) best.new log.new store.new) }
     ensures prefix { store.new.prefix ≡ store.old.prefix }
-    ensures shown { IfOk result (λ shown. (shown.number + 1 ≡ length log.new)
-        × IsShown (choices codes.now) (state (B.bar bars.old) best.old log.old store.old)
-        (state (B.bar bars.new) best.new log.new store.new) shown.tie shown.number part.now) }
+    ensures shown { IfOk result (IsShownLast (choices codes.now) (state (B.bar bars.old) best.old log.old store.old)
+        (state (B.bar bars.new) best.new log.new store.new) part.now) }
 {
     if !walk {
         return refute(
@@ -278,11 +274,8 @@ fn settle_range<B: Bars>(
     ensures prefix { store.new.prefix ≡ store.old.prefix }
     ensures needs { (x : ℕ) → has needs.old x ≡ true → has needs.new x ≡ true }
     ensures view { IsView codes.now side.now (has needs.new) range.block view.new }
-    ensures covered { IfOk result (λ r. ((code : ℕ) → range.lo ≤ code → code < range.hi
-        → IsHandledBy (choices codes.now) (state (B.bar bars.old) best.old log.old store.old)
-        (state (B.bar bars.new) best.new log.new store.new) r.tie side.now (has needs.new) (option_to_list r.cite) range.block code)
-        × AreCited (choices codes.now) (state (B.bar bars.old) best.old log.old store.old)
-        (state (B.bar bars.new) best.new log.new store.new) r.tie (option_to_list r.cite)) }
+    ensures covered { IfOk result (CoversRange (choices codes.now) (state (B.bar bars.old) best.old log.old store.old)
+        (state (B.bar bars.new) best.new log.new store.new) side.now (has needs.new) range) }
 {
     if range.hi <= range.lo {
         let tie = false;
@@ -344,10 +337,8 @@ pub(crate) fn along<B: Bars>(
     ensures runs { Runs (choices codes.now) job (state (B.bar bars.old) best.old log.old store.old)
         (state (B.bar bars.new) best.new log.new store.new) }
     ensures prefix { store.new.prefix ≡ store.old.prefix }
-    ensures shown { IfOk result (λ shown. (shown.number + 1 ≡ length log.new)
-        × IsShown (choices codes.now) (state (B.bar bars.old) best.old log.old store.old)
-        (state (B.bar bars.new) best.new log.new store.new) shown.tie shown.number
-        (node_box (choices codes.now) side.now range.block range.lo range.hi)) }
+    ensures shown { IfOk result (IsShownLast (choices codes.now) (state (B.bar bars.old) best.old log.old store.old)
+        (state (B.bar bars.new) best.new log.new store.new) (node_box (choices codes.now) side.now range.block range.lo range.hi)) }
 {
     if let Some(shown) = fitted(
         alloc, codes, tables, job, bars, best, log, store, hints, side,

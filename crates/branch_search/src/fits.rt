@@ -6,7 +6,7 @@ ghost use Rattle.tardiness_bounds.specs.Numbers.{number};
 ghost use Rattle.branch_kernel.specs.Known.{AreKnown};
 ghost use Rattle.branch_kernel.specs.States.{IsHeld, state};
 ghost use Rattle.branch_kernel.specs.Growth.{IsReady, Runs};
-ghost use Rattle.branch_kernel.specs.Shows.{IsShown};
+ghost use Rattle.branch_kernel.specs.Shows.{IsShownLast};
 ghost use Rattle.branch_search.specs.Fits.{HasLowFit, IsBeatenSide};
 
 use crate::Hints;
@@ -218,9 +218,8 @@ pub(crate) fn fitted<B: Bars>(
         (state (B.bar bars.new) best.now log.new store.new) }
     ensures prefix { store.new.prefix ≡ store.old.prefix }
     ensures shown { IfOk result (λ o. MatchOption o (HasLowFit (choices codes.now) part.now (B.bar bars.new / 2 ^ 32))
-        (λ shown. (shown.number + 1 ≡ length log.new)
-        × IsShown (choices codes.now) (state (B.bar bars.old) best.now log.old store.old)
-        (state (B.bar bars.new) best.now log.new store.new) shown.tie shown.number part.now)) }
+        (IsShownLast (choices codes.now) (state (B.bar bars.old) best.now log.old store.old)
+        (state (B.bar bars.new) best.now log.new store.new) part.now)) }
 {
     let bar = bars.see();
     hints.note_wanted(wanted(codes, bar, best, part));

@@ -7,7 +7,7 @@ ghost use Rattle.branch_kernel.specs.States.{state};
 ghost use Rattle.branch_kernel.specs.Boxes.{node_box};
 ghost use Rattle.branch_kernel.specs.Nodes.{IsNode};
 ghost use Rattle.branch_kernel.specs.Growth.{IsReady, Runs};
-ghost use Rattle.branch_kernel.specs.Shows.{IsShown};
+ghost use Rattle.branch_kernel.specs.Shows.{IsShownLast};
 
 use crate::Hints;
 use crate::cycle::{along, refute};
@@ -58,10 +58,8 @@ fn search_box<B: Bars>(
     ensures runs { Runs (choices codes.now) job (state (B.bar bars.old) best.old log.old store.old)
         (state (B.bar bars.new) best.new log.new store.new) }
     ensures prefix { store.new.prefix ≡ store.old.prefix }
-    ensures shown { IfOk result (λ shown. (shown.number + 1 ≡ length log.new)
-        × IsShown (choices codes.now) (state (B.bar bars.old) best.old log.old store.old)
-        (state (B.bar bars.new) best.new log.new store.new) shown.tie shown.number
-        (node_box (choices codes.now) side.now range.block range.lo range.hi)) }
+    ensures shown { IfOk result (IsShownLast (choices codes.now) (state (B.bar bars.old) best.old log.old store.old)
+        (state (B.bar bars.new) best.new log.new store.new) (node_box (choices codes.now) side.now range.block range.lo range.hi)) }
 {
     let part = with(alloc, side, range)?;
     let next = open_or(codes, &part, range.block);
@@ -97,10 +95,8 @@ pub fn search_range<B: Bars>(
     ensures runs { Runs (choices codes.now) job (state (B.bar bars.old) best.old log.old store.old)
         (state (B.bar bars.new) best.new log.new store.new) }
     ensures prefix { store.new.prefix ≡ store.old.prefix }
-    ensures shown { IfOk result (λ shown. (shown.number + 1 ≡ length log.new)
-        × IsShown (choices codes.now) (state (B.bar bars.old) best.old log.old store.old)
-        (state (B.bar bars.new) best.new log.new store.new) shown.tie shown.number
-        (node_box (choices codes.now) side.now range.block range.lo range.hi)) }
+    ensures shown { IfOk result (IsShownLast (choices codes.now) (state (B.bar bars.old) best.old log.old store.old)
+        (state (B.bar bars.new) best.new log.new store.new) (node_box (choices codes.now) side.now range.block range.lo range.hi)) }
 {
     hints.note_cut(range);
     let None = own_code(best, range) else {

@@ -1,7 +1,7 @@
 -- A worker's store from one search to the next.
 use Rattle.std.proofs.Common.{◌≡◌, ℕ, suc, ◌+◌, ◌-◌, ◌^◌, ◌<◌, ◌≤◌, List, [], ◌∷◌, ◌++◌, length, Option, Some, None, refl, sym, ap, ◌∙◌, subst, inl, inr, arith, length-append}
 use Rattle.std.specs.List.{All, Contains}
-use Rattle.std.proofs.lemmas.List.Elements.{All-append, All-contains, All-contains_itself, All-nil, All-weaker, Contains-append_right}
+use Rattle.std.proofs.lemmas.List.Elements.{All-contains, All-contains_itself, All-nil, All-weaker, Contains-append_right}
 use Rattle.std.proofs.lemmas.Option.{same_Some}
 use Rattle.plan_rule.specs.Choices.{Choices}
 use Rattle.plan_rule.specs.Laws.{AreSmall}
@@ -14,7 +14,7 @@ use Rattle.branch_kernel.specs.Growth.{Ends}
 use Rattle.branch_kernel.specs.Rivals.{Settles}
 use Rattle.branch_kernel.specs.States.{State, state}
 use Rattle.branch_kernel.specs.Stored.{IsTagged, IsStored, IsFresh}
-use Rattle.branch_kernel.proofs.GrowthLaws.{clean_falls, settles_falls, tagged_more, fresh_tagged}
+use Rattle.branch_kernel.proofs.GrowthLaws.{clean_falls, settles_falls, stored_ends}
 use Rattle.branch_workers.specs.Stock.{IsPostable, IsStocked}
 
 -- what is at or below all keys that are seen now was at or below all that were seen before
@@ -40,15 +40,6 @@ stocked_none c log store seen none no_prefix = record {
   settles = λ n low. subst (All (λ (e : Nogood). Settles c n None e.part)) (sym none) (All-nil (λ (e : Nogood). Settles c n None e.part));
   clean = λ n fits low. subst (All (λ (e : Nogood). IsClean c n log e.tag)) (sym none) (All-nil (λ (e : Nogood). IsClean c n log e.tag));
 }
-
--- the tags after a search
-stored_ends : (c : Choices) (s s' : State) → Ends c s s' → IsStored c s.log s.store → IsStored c s'.log s'.store
-stored_ends c s s' g h =
-    let (more, e) = g.more in
-    let (added, f, fresh) = g.stored in
-    subst (IsStored c s'.log) (sym f) (All-append (IsTagged c s'.log) s.store added
-    (subst (λ log. IsStored c log s.store) (sym e) (All-weaker (IsTagged c s.log) (IsTagged c (s.log ++ more)) (tagged_more c s.log more) s.store h))
-    (All-weaker (IsFresh c (length s.log) s'.log) (IsTagged c s'.log) (fresh_tagged c (length s.log) s'.log) added fresh))
 
 -- a bar fits a u64
 pub bar_fits : (c : Choices) (bar : ℕ) → AreSmall c → IsBar c bar → bar < 2 ^ 64

@@ -6,7 +6,8 @@ use Rattle.plan_rule.specs.Reports.{IsBar}
 use Rattle.plan_rule.specs.Yards.{choices}
 use Rattle.branch_kernel.specs.Bars.{PlainBar}
 use Rattle.branch_kernel.specs.Stored.{IsStored}
-use Rattle.search_tests.proofs.JobLaws.{report_plan, stored_next}
+use Rattle.branch_kernel.proofs.GrowthLaws.{stored_ends}
+use Rattle.search_tests.proofs.JobLaws.{report_plan}
 use Rattle.search_tests.proofs.jobs.plan_of_jobs.Goals as goal
 use Rattle.search_tests.proofs.jobs.plan_of_jobs.Goals.{then-is_part+in_ok-report, else-is_part}
 
@@ -22,7 +23,7 @@ loop-number-preserved c =
         depth = ap (λ (s : PlainStore). s.prefix) w.store-is ∙ w.solve.ensures.depth;
         stored = subst (λ (s : PlainStore). IsStored (choices c.args.codes.now) c.if-is_part.log s.nogoods) (sym w.store-is)
             (subst (λ log. IsStored (choices c.args.codes.now) log w.solve.new.store.nogoods) (sym w.log-is)
-            (stored_next (choices c.args.codes.now) _ _ w.in_ok-report.ensures.solved.ends c.loop-number.invariant.stored));
+            (stored_ends (choices c.args.codes.now) _ _ w.in_ok-report.ensures.solved.ends c.loop-number.invariant.stored));
         plan = subst (λ b. IfSome b (IsPlan (choices c.args.codes.now))) (sym w.best-is) w.first_of-best.ensures;
       }
       | else-is_part w ↦ record {
