@@ -2,3 +2,4 @@ pub mod CycleLaws
 pub mod FitLaws
 pub mod FloorLaws
 pub mod ViewLaws
+mod RoomLaws

@@ -1,6 +1,6 @@
 -- What is kept of a side holds on while more is needed, and covers dear codes.
 use Rattle.std.proofs.Common.{◌≡◌, ◌≢◌, ℕ, ◌+◌, ◌<◌, ◌≤◌, List, [], Bool, true, false, Option, Some, None, sym, ap, ◌∙◌, subst, inl, inr, arith, get_or}
-use Rattle.std.specs.Prelude.{All, IfSome}
+use Rattle.std.specs.Prelude.{IfSome}
 use Rattle.std.proofs.lemmas.List.Elements.{All-contains}
 use Rattle.common_lists.proofs.ListLaws.{some_weaker}
 use Rattle.shape_exact.specs.Yards.{PlainYard}

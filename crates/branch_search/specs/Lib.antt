@@ -1,4 +1,5 @@
 pub mod Fits
 pub mod Floors
 pub mod Jumping
+pub mod Segments
 pub mod Views

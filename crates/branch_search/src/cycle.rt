@@ -12,6 +12,7 @@ ghost use Rattle.branch_kernel.specs.Growth.{IsReady, Runs};
 ghost use Rattle.branch_kernel.specs.Shows.{IsShownLast};
 ghost use Rattle.branch_kernel.specs.Covers.{CoversCode, CoversRange};
 ghost use Rattle.branch_search.specs.Jumping.{Jumps};
+ghost use Rattle.branch_search.specs.Segments.{IsSegment};
 ghost use Rattle.branch_search.specs.Views.{IsView};
 
 use crate::Hints;
@@ -101,7 +102,7 @@ fn settle<B: Bars>(
     })
 }
 
-/// Settles the codes of a range one after another, and makes the record that says so.
+/// Settles the segments of a range one after another, and makes the record that says so.
 #[cycle(refute)]
 fn divide<B: Bars>(
     alloc: Global,
@@ -130,18 +131,17 @@ fn divide<B: Bars>(
         (state (B.bar bars.new) best.new log.new store.new) (node_box (choices codes.now) side.now range.block range.lo range.hi)) }
 {
     hints.note_rank(range.block, side.literals().len());
-    let block = range.block;
     let mut view = view_of(alloc, &*tables, side)?;
     let order = order_of(alloc, codes, &view.front, hints, range)?;
     let mut cites = Vec::new(alloc);
     let mut needs = Blocks::none();
     let mut tie = false;
     for at in 0..order.list.len() {
-        let code = order.list[at];
-        hints.note_code(at < order.first, range.block, code, &needs);
-        let settled = settle(
-            alloc, codes, tables, job, bars, best, log, store, hints, side, block, code,
-            &mut needs, &mut view, false,
+        let segment = order.list[at];
+        hints.note_code(at < order.first, range.block, segment.lo, &needs);
+        let settled = settle_segment(
+            alloc, codes, tables, job, bars, best, log, store, hints, side, range, segment,
+            &mut needs, &mut view,
         )?;
         let covered = settled.covered;
         if settled.jumps {
@@ -244,9 +244,9 @@ fn deeper<B: Bars>(
     )
 }
 
-/// Settles some codes of a block beside a side: by one record where there are several.
+/// Settles a segment of a range of a block beside a side: by one record where it has several codes.
 #[cycle(refute)]
-fn settle_range<B: Bars>(
+fn settle_segment<B: Bars>(
     alloc: Global,
     codes: &Codes,
     tables: &YardTables<'_>,
@@ -258,14 +258,15 @@ fn settle_range<B: Bars>(
     hints: &mut Hints,
     side: &PlanBox,
     range: Literal,
+    segment: Literal,
     needs: &mut Blocks,
     view: &mut SideView<'_>,
-) -> Result<Covered, NoMemory>
+) -> Result<Settled, NoMemory>
     requires tables { tables.now.yard ≡ codes.now }
     requires served { B.yard bars.old ≡ codes.now }
     requires ready { IsReady (choices codes.now) job (state (B.bar bars.old) best.old log.old store.old) }
-    requires node { range.lo < range.hi → IsNode (choices codes.now) job side.now range.block range.lo range.hi }
-    requires cut { range.lo + 1 < range.hi → (0 < range.lo) ⊎ (range.hi < count (choices codes.now) range.block) }
+    requires node { IsNode (choices codes.now) job side.now range.block range.lo range.hi }
+    requires segment { IsSegment range segment }
     requires view { IsView codes.now side.now (has needs.old) range.block view.old }
     ensures served { B.yard bars.new ≡ codes.now }
     ensures home { B.home bars.new ≡ B.home bars.old }
@@ -274,15 +275,22 @@ fn settle_range<B: Bars>(
     ensures prefix { store.new.prefix ≡ store.old.prefix }
     ensures needs { (x : ℕ) → has needs.old x ≡ true → has needs.new x ≡ true }
     ensures view { IsView codes.now side.now (has needs.new) range.block view.new }
-    ensures covered { IfOk result (CoversRange (choices codes.now) (state (B.bar bars.old) best.old log.old store.old)
-        (state (B.bar bars.new) best.new log.new store.new) side.now (has needs.new) range) }
+    ensures covered { IfOk result (λ r. CoversRange (choices codes.now) (state (B.bar bars.old) best.old log.old store.old)
+        (state (B.bar bars.new) best.new log.new store.new) side.now (has needs.new) segment r.covered) }
+    ensures jumped { IfOk result (Jumps (choices codes.now) (state (B.bar bars.old) best.old log.old store.old)
+        (state (B.bar bars.new) best.new log.new store.new) side.now) }
 {
-    if range.hi <= range.lo {
-        let tie = false;
-        return Ok(Covered { cite: None, tie });
+    if segment.hi <= segment.lo {
+        return Ok(Settled {
+            covered: Covered {
+                cite: None,
+                tie: false,
+            },
+            jumps: false,
+        });
     }
-    if range.hi == range.lo + 1 {
-        let settled = settle(
+    if segment.hi == segment.lo + 1 {
+        return settle(
             alloc,
             codes,
             tables,
@@ -293,23 +301,27 @@ fn settle_range<B: Bars>(
             store,
             hints,
             side,
-            range.block,
-            range.lo,
+            segment.block,
+            segment.lo,
             needs,
             view,
             false,
-        )?;
-        return Ok(settled.covered);
+        );
     }
-    let part = with(alloc, side, range)?;
-    let next = open_or(codes, &part, range.block);
+    let part = with(alloc, side, segment)?;
+    let next = open_or(codes, &part, segment.block);
     let shown = refute(
         alloc, codes, tables, job, bars, best, log, store, hints, &part, next,
     )?;
-    add_result(codes, &log.records()[shown.number as usize], needs);
-    Ok(Covered {
-        cite: Some(shown.number),
-        tie: shown.tie,
+    let record = &log.records()[shown.number as usize];
+    add_result(codes, record, needs);
+    let named = names(codes, record, segment.block);
+    Ok(Settled {
+        covered: Covered {
+            cite: Some(shown.number),
+            tie: shown.tie,
+        },
+        jumps: !named,
     })
 }
 
@@ -363,8 +375,8 @@ pub(crate) fn along<B: Bars>(
         lo: code + 1,
         hi: range.hi,
     };
-    let above = settle_range(
-        alloc, codes, tables, job, bars, best, log, store, hints, side, upper, &mut needs,
+    let above = settle_segment(
+        alloc, codes, tables, job, bars, best, log, store, hints, side, range, upper, &mut needs,
         &mut view,
     )?;
     let lower = Literal {
@@ -372,11 +384,16 @@ pub(crate) fn along<B: Bars>(
         lo: range.lo,
         hi: code,
     };
-    let below = settle_range(
-        alloc, codes, tables, job, bars, best, log, store, hints, side, lower, &mut needs,
+    let below = settle_segment(
+        alloc, codes, tables, job, bars, best, log, store, hints, side, range, lower, &mut needs,
         &mut view,
     )?;
-    let cites = cites_of(alloc, own.covered.cite, above.cite, below.cite)?;
-    let tie = own.covered.tie | above.tie | below.tie;
+    let cites = cites_of(
+        alloc,
+        own.covered.cite,
+        above.covered.cite,
+        below.covered.cite,
+    )?;
+    let tie = own.covered.tie | above.covered.tie | below.covered.tie;
     close(alloc, codes, log, store, side, range, &needs, cites, tie)
 }

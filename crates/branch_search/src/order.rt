@@ -1,7 +1,9 @@
-//! In which order the codes of a range are settled.
-ghost use Rattle.std.specs.Prelude.{◌≡◌, ◌<◌, ◌≤◌, ℕ, All, Contains, IfOk, length, true};
+//! In which order the segments of a range are settled.
+ghost use Rattle.std.specs.Prelude.{◌≡◌, ◌<◌, ◌≤◌, All, Contains, IfOk, length, true};
+ghost use Rattle.plan_rule.specs.declared.literal.Literal.{Literal};
 ghost use Rattle.plan_rule.specs.Choices.{blocks};
 ghost use Rattle.plan_rule.specs.Yards.{choices};
+ghost use Rattle.branch_search.specs.Segments.{HaveAll, IsSegment};
 
 use crate::Hints;
 use crate::choose::slack_of;
@@ -11,21 +13,36 @@ use shape_exact::NoMemory;
 use std::alloc::Global;
 use tardiness_bounds::Frontier;
 
-/// Codes of a range: first so many that need a box of their own, and then the others.
+/// Segments of a range: first so many that need a box of their own, and then the others.
 #[derive(Drop)]
 pub(crate) struct Order {
-    pub list: Vec<u32>,
+    pub list: Vec<Literal>,
     pub first: usize,
 }
 
-/// The codes of a range that are clear of the literals of the frontier and cost at most so much, ascending.
+/// A code of the range as a segment.
+fn segment_at(range: Literal, code: u32) -> Literal
+    requires low { range.lo ≤ code }
+    requires high { code < range.hi }
+    ensures segment { IsSegment range result }
+    ensures from { result.lo ≤ code }
+    ensures to { code < result.hi }
+{
+    Literal {
+        block: range.block,
+        lo: code,
+        hi: code + 1,
+    }
+}
+
+/// The codes of a range that are clear of the literals of the frontier and cost at most so much, ascending, each as a segment.
 fn children_of(
     alloc: Global,
     front: &Frontier<'_>,
     range: Literal,
     most: u32,
-) -> Result<Vec<u32>, NoMemory>
-    ensures { IfOk result (λ list. All (λ code. (range.lo ≤ code) × (code < range.hi)) list.items) }
+) -> Result<Vec<Literal>, NoMemory>
+    ensures { IfOk result (λ list. All (IsSegment range) list.items) }
 {
     let mut list = Vec::new(alloc);
     if !front.can_push(range.block, range.lo) {
@@ -36,25 +53,25 @@ fn children_of(
             break;
         }
         if range.lo <= code {
-            list.push(code)?;
+            list.push(segment_at(range, code))?;
         }
     }
     Ok(list)
 }
 
-/// Whether the code stands at a place of the list.
-fn stands_at(list: &[u32], at: usize, code: u32) -> bool
+/// Whether the segment at a place of the list has the code.
+fn stands_at(list: &[Literal], at: usize, code: u32) -> bool
     ensures within { result ≡ true → at < length list.now }
-    ensures stands { result ≡ true → Contains list.now code }
+    ensures stands { result ≡ true
+        → (segment : Literal) × Contains list.now segment × (segment.lo ≤ code) × (code < segment.hi) }
 {
-    at < list.len() && list[at] == code
+    at < list.len() && list[at].has(code)
 }
 
-/// Adds those codes of the range that are not in the list, which ascends.
-fn add_others(list: &mut Vec<u32>, range: Literal) -> Result<(), NoMemory>
-    ensures inside { IfOk result (λ _. All (λ code. (range.lo ≤ code) × (code < range.hi)) list.old.items
-        → All (λ code. (range.lo ≤ code) × (code < range.hi)) list.new.items) }
-    ensures each { IfOk result (λ _. (code : ℕ) → range.lo ≤ code → code < range.hi → Contains list.new.items code) }
+/// Adds as segments those codes of the range that are not in the list, whose segments are single codes and ascend.
+fn add_others(list: &mut Vec<Literal>, range: Literal) -> Result<(), NoMemory>
+    ensures inside { IfOk result (λ _. All (IsSegment range) list.old.items → All (IsSegment range) list.new.items) }
+    ensures each { IfOk result (λ _. HaveAll range list.new.items) }
 {
     let mut at = 0;
     for code in range.lo..range.hi {
@@ -62,13 +79,13 @@ fn add_others(list: &mut Vec<u32>, range: Literal) -> Result<(), NoMemory>
             at += 1;
             continue;
         }
-        list.push(code)?;
+        list.push(segment_at(range, code))?;
     }
     Ok(())
 }
 
-/// Each code of the range: first those that are clear of the literals of the frontier and cost at most the slack of their block,
-/// ascending, and then the others, ascending.
+/// The codes of the range, each as a segment: first those that are clear of the literals of the frontier and cost at most the
+/// slack of their block, ascending, and then the others, ascending.
 pub(crate) fn order_of(
     alloc: Global,
     codes: &Codes,
@@ -78,8 +95,8 @@ pub(crate) fn order_of(
 ) -> Result<Order, NoMemory>
     requires front { front.now.yard ≡ codes.now }
     requires block { range.block < blocks (choices codes.now) }
-    ensures inside { IfOk result (λ order. All (λ code. (range.lo ≤ code) × (code < range.hi)) order.list.items) }
-    ensures each { IfOk result (λ order. (code : ℕ) → range.lo ≤ code → code < range.hi → Contains order.list.items code) }
+    ensures inside { IfOk result (λ order. All (IsSegment range) order.list.items) }
+    ensures each { IfOk result (λ order. HaveAll range order.list.items) }
 {
     let slack = slack_of(codes, front, hints.wanted(), range.block);
     let mut list = children_of(alloc, front, range, slack)?;
