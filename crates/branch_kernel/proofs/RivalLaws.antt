@@ -7,13 +7,13 @@ use Rattle.std.proofs.lemmas.Option.{none-some, same_Some}
 use Rattle.plan_rule.specs.declared.literal.Literal.{Literal}
 use Rattle.plan_rule.specs.Choices.{Choices, blocks}
 use Rattle.plan_rule.specs.Plans.{code_of, IsPlan, IsFeasible, total, IsLexLess, IsBefore, IsNotBefore}
-use Rattle.plan_rule.specs.Boxes.{Holds, HasExact, exact_code}
+use Rattle.plan_rule.specs.Boxes.{HasExact, exact_code}
 use Rattle.plan_rule.specs.Bounds.{Refutes, IsBehind}
-use Rattle.plan_rule.specs.Paths.{path, key, IsAboveBar}
-use Rattle.plan_rule.proofs.BoundLaws.{refuted, code_past, above_code}
+use Rattle.plan_rule.specs.Paths.{key, IsAboveBar}
+use Rattle.plan_rule.proofs.BoundLaws.{refuted, code_past}
 use Rattle.plan_rule.proofs.BarLaws.{FitsBound, refutes_within, key_above}
-use Rattle.plan_rule.proofs.OrderLaws.{before_cases, before_trans, lex_cases}
-use Rattle.plan_rule.proofs.PathLaws.{path-less, path-below}
+use Rattle.plan_rule.proofs.OrderLaws.{before_cases, before_trans}
+use Rattle.plan_rule.proofs.PathLaws.{path-below}
 use Rattle.branch_kernel.specs.Rivals.{IsNotAfter, IsRival, IsSettled, IsNoWorse, IsLater, Beats}
 
 -- later is in order
@@ -104,11 +104,6 @@ exact_any (l ∷ box) b d e = go l box b d (l.block == b) (l.hi == l.lo + 1) (eq
     go l box b d true false is rest e = absurd (none-some d e)
     go l box b d false one is rest e = let (k, m, within, at, p) = rest e in (suc k, m, omega arith, at, p)
 
--- the box has the plan's codes on the blocks before one, and there a literal above the plan's code
-abbrev pub IsBehindAt : Choices → List Literal → List ℕ → Type 0
-IsBehindAt c box p =
-    (j : ℕ) × (j < blocks c) × ((b : ℕ) → b < j → HasExact box b (code_of p b)) × Any (λ l. (l.block ≡ j) × (code_of p j < l.lo)) box
-
 above_exact : (box : List Literal) (j d e : ℕ) → e < d → HasExact box j d → Any (λ l. (l.block ≡ j) × (e < l.lo)) box
 above_exact box j d e less exacts =
     let (k, l, within, is, (at, lo)) = exact_any box j d exacts in (k, l, within, is, (at, omega arith))
@@ -166,75 +161,6 @@ beats_tie c bar m box k good fits low same behind = record {
           | inl l ↦ inl (omega arith)
           | inr tie ↦ inr (same ∙ sym tie.0, behind_less c box m p good.is_plan behind tie.1)
         ]
-      ]
-    ]
-
--- the box keeps the codes of a least plan on the blocks before d, and there that code or one above; past d the least plan has zeros
-pub record KeepsFront (c : Choices) (box : List Literal) (low : List ℕ) (d : ℕ) : Type 0 where
-  pub exacts : (b : ℕ) → b < d → HasExact box b (code_of low b)
-  pub next : (code_of low d ≡ 0) ⊎ Any (λ l. (l.block ≡ d) × (code_of low d ≤ l.lo)) box
-  pub rest : (b : ℕ) → d < b → code_of low b ≡ 0
-
--- such a box is behind each plan that is lexicographically less than the least plan
-pub front_behind : (c : Choices) (box : List Literal) (low p : List ℕ) (d : ℕ) → IsPlan c low → KeepsFront c box low d → IsLexLess p low → IsBehindAt c box p
-front_behind c box low p d plan keeps less =
-    let m = less.less in
-    elim (cases_lt less.place (blocks c)) [
-      | inr past ↦ let e = code_past c low less.place plan past in absurd (omega arith)
-      | inl exists ↦ elim (cases_order less.place d) [
-        | inl e ↦ elim keeps.next [
-          | inl z ↦ let f = subst (λ i. code_of p i < code_of low i) e m in absurd (omega arith)
-          | inr some ↦
-              let l : code_of p d < code_of low d = subst (λ i. code_of p i < code_of low i) e m in
-              let (k, l', within, is, (at, lo)) = some in
-              (d, omega arith, λ b i. subst (HasExact box b) (sym (less.same b (omega arith))) (keeps.exacts b i), (k, l', within, is, (at, omega arith)))
-        ]
-        | inr o ↦ elim o [
-          | inl l ↦ (
-            less.place,
-            exists,
-            λ b i. subst (HasExact box b) (sym (less.same b i)) (keeps.exacts b (omega arith)),
-            above_exact box less.place _ _ m (keeps.exacts less.place l),
-          )
-          | inr l ↦ let e = keeps.rest less.place l in absurd (omega arith)
-        ]
-      ]
-    ]
-
--- and each plan in it is the least plan, or lexicographically after it
-pub front_least : (c : Choices) (box : List Literal) (low q : List ℕ) (d : ℕ) → IsPlan c low → IsPlan c q → KeepsFront c box low d → Holds box q
-    → path c low ≤ path c q
-front_least c box low q d plan is keeps held = elim (lex_cases q low (is.one_each ∙ sym plan.one_each)) [
-  | inl e ↦ let f = ap (path c) e in omega arith
-  | inr o ↦ elim o [
-    | inl l ↦
-        let (j, exists, exacts, above) = front_behind c box low q d plan keeps l in
-        let x = above_code box q j (code_of q j) held above in absurd (omega arith)
-    | inr l ↦ path-less c low q plan is l
-  ]
-]
-
--- a bound beats all where it, with the least path number of the box, is a key above the bar
-pub beats_path : (c : Choices) (bar : ℕ) (low : List ℕ) (d : ℕ) (box : List Literal) (k : ℕ) → IsPlan c low → KeepsFront c box low d → k < 2 ^ 32
-    → bar < k * 2 ^ 32 + path c low → Beats c bar None box (Some k)
-beats_path c bar low d box k plan keeps fits above = record {
-  refutes = refutes;
-  settles = λ q feasible held most. let l = front_least c box low q d plan feasible.is_plan keeps held in inl (omega arith);
-}
-  where
-    refutes : (t : Option (List ℕ)) → IsRival c bar None t → Refutes c t box (Some k)
-    refutes None rival = let l = path-below c low in absurd (omega arith)
-    refutes (Some p) (is, within, other) = elim (cases_order (total c p) k) [
-      | inl e ↦ elim (lex_cases p low (is.one_each ∙ sym plan.one_each)) [
-        | inl same ↦ let f = ap (path c) same in absurd (omega arith)
-        | inr o ↦ elim o [
-          | inl l ↦ inr (sym e, inl (front_behind c box low p d plan keeps l))
-          | inr l ↦ let m = path-less c low p plan is l in absurd (omega arith)
-        ]
-      ]
-      | inr o ↦ elim o [
-        | inl l ↦ inl l
-        | inr l ↦ let m = path-below c low in absurd (omega arith)
       ]
     ]
 

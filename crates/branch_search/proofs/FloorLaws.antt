@@ -1,5 +1,5 @@
 -- Bounds that beat a box and each box with more literals, and the dear codes that a base covers by them.
-use Rattle.std.proofs.Common.{◌≡◌, ◌≢◌, ℕ, zero, suc, ◌+◌, ◌/◌, ◌^◌, ◌<◌, ◌≤◌, List, [], Option, Some, None, Bool, true, false, refl, sym, subst, inl, inr, arith, get_or, length}
+use Rattle.std.proofs.Common.{◌≡◌, ◌≢◌, ℕ, zero, suc, ◌+◌, ◌/◌, ◌^◌, ◌<◌, ◌≤◌, List, [], Option, Some, None, Bool, true, refl, sym, subst, inl, inr, arith, get_or, length}
 use Rattle.std.specs.List.{All, Contains}
 use Rattle.common_lists.proofs.ListLaws.{contains_filter}
 use Rattle.plan_rule.proofs.WithLaws.{with_self}
@@ -23,7 +23,7 @@ use Rattle.branch_kernel.specs.Shows.{IsHandledBy}
 use Rattle.branch_kernel.proofs.RivalLaws.{beats_later, beats_tie, later_none}
 use Rattle.branch_kernel.proofs.NodeLaws.{key_fits}
 use Rattle.branch_kernel.proofs.WithLaws.{Rises, rises_from, rises_filter, passed, with_box, with_rises, with_has_exact, contains_with, exact_of_literal, exact_literal}
-use Rattle.branch_kernel.proofs.DropLaws.{base_exists, beats_over, by_clash, kept_box, kept_free, kept_inside, side_has_exact, sum_some}
+use Rattle.branch_kernel.proofs.DropLaws.{base_exists, beats_over, kept_box, kept_free, kept_inside, sum_some}
 use Rattle.branch_kernel.proofs.GrowthLaws.{handled_base}
 use Rattle.branch_search.specs.Floors.{IsNoLess, BeatsFrom}
 
@@ -151,15 +151,6 @@ tie_bound c bar best part m bound k known fits held is least same behind =
     (subst (λ b. BeatsFrom c bar (Some m) part (number b)) (sym least)
     (subst (λ k. BeatsFrom c bar (Some m) part (Some k)) (sym same)
     (tie_from c bar m part known fits two (subst (λ n. IsBehindOn n part m) two.0.is_plan.one_each behind))))
-
--- a code that clashes with a literal that is needed
-pub kept_clash : (c : Choices) (start s : State) (side short : List Literal) (needs : ℕ → Bool) (b code a d : ℕ) → short ≡ kept needs side → IsBox c side → LeavesFree side b → b < blocks c
-    → HasExact short a d → c.Clash a d b code → IsHandledBy c start s false side needs [] b code
-kept_clash c start s side short needs b code a d e is free block exacts clash =
-    let held : HasExact (kept needs side) a d = subst (λ s. HasExact s a d) e exacts in
-    by_clash c start s false side needs [] b code a d is free block
-    (All-contains (λ l. needs l.block ≡ true) (kept needs side) (exact a d) (passed (λ l. needs l.block) side) (exact_has (kept needs side) a d held))
-    (side_has_exact needs side a d (rises_from side is.ascending) held) clash
 
 -- a code with which the base of the needed literals beats
 pub kept_base : (c : Choices) (start s : State) (bar : ℕ) (best : Option (List ℕ)) (tie : Bool) (side short part : List Literal) (needs : ℕ → Bool) (b code : ℕ) (l : Literal) (r : Option ℕ)

@@ -1,5 +1,5 @@
 -- What is kept of a side holds on while more is needed, and covers dear codes.
-use Rattle.std.proofs.Common.{◌≡◌, ◌≢◌, ℕ, ◌+◌, ◌<◌, ◌≤◌, List, [], Bool, true, false, Option, Some, None, sym, ap, ◌∙◌, subst, inl, inr, arith, get_or}
+use Rattle.std.proofs.Common.{◌≡◌, ◌≢◌, ℕ, ◌+◌, ◌<◌, ◌≤◌, List, [], Bool, true, false, Option, Some, sym, ap, ◌∙◌, subst, inl, inr, arith, get_or}
 use Rattle.std.specs.Prelude.{IfSome}
 use Rattle.std.proofs.lemmas.List.Elements.{All-contains}
 use Rattle.common_lists.proofs.ListLaws.{some_weaker}
@@ -12,11 +12,10 @@ use Rattle.plan_rule.specs.Bounds.{IsBase}
 use Rattle.plan_rule.specs.Yards.{choices}
 use Rattle.tardiness_bounds.specs.declared.beside.Beside.{Beside}
 use Rattle.tardiness_bounds.specs.declared.beside.Hindrance.{Hindrance}
-use Rattle.tardiness_bounds.specs.declared.beside.Hindrance.TheVariants.{Clash, Piece}
-use Rattle.tardiness_bounds.specs.Besides.{HaveSameExacts, IsHindered, TellsBeside}
+use Rattle.tardiness_bounds.specs.declared.beside.Hindrance.TheVariants.{Clash}
+use Rattle.tardiness_bounds.specs.Besides.{IsHindered, TellsBeside}
 use Rattle.tardiness_bounds.specs.Numbers.{number}
 use Rattle.tardiness_bounds.specs.Stacks.{CanPush}
-use Rattle.tardiness_bounds.proofs.SameLaws.{same_may}
 use Rattle.branch_kernel.specs.Boxes.{kept}
 use Rattle.branch_kernel.specs.Nodes.{IsNode}
 use Rattle.branch_kernel.specs.Shows.{IsHandledBy}
@@ -68,15 +67,6 @@ dear_new c side needs b code l part dear is free block exists e f g base cost = 
       (subst (λ l. IsBase c (with_literal dear.short l) (number dear.bound)) f (subst (λ part. IsBase c part (number dear.bound)) g base)))
       (omega arith);
 }
-
--- what hinders a code beside the exact literals of a side hinders it beside the side
-pub told_side : (c : Choices) (literals side : List Literal) (b code : ℕ) (told : Beside) → HaveSameExacts literals side → TellsBeside c literals b code told → TellsBeside c side b code told
-told_side c literals side b code told same tells = record { cost_is = tells.cost_is; hindered = go told.hindrance tells.hindered }
-  where
-    go : (h : Option Hindrance) → IsHindered c literals b code h → IsHindered c side b code h
-    go None may = same_may c literals side same b code may
-    go (Some (Clash a)) (d, exacts, clash) = (d, sym (same a) ∙ exacts, clash)
-    go (Some Piece) met = met
 
 -- a code of a range may be pushed onto the frontier of the side
 pub can_push : (yard : PlainYard) (job : Job) (side : List Literal) (needs : ℕ → Bool) (b code : ℕ) (view : SideView) → IsNode (choices yard) job side b code (code + 1)

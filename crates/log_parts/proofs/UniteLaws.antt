@@ -1,10 +1,10 @@
 -- A log that is taken into another one keeps what its records show.
-use Rattle.std.proofs.Common.{◌≡◌, ℕ, zero, suc, ◌+◌, ◌<◌, ◌≤◌, List, [], ◌∷◌, ◌++◌, length, map, take, get_or, Some, ◌⊎◌, refl, sym, ap, ◌∙◌, subst, inl, inr, arith, append_assoc, append-nil, length-append}
+use Rattle.std.proofs.Common.{◌≡◌, ℕ, zero, suc, ◌+◌, ◌<◌, ◌≤◌, List, [], ◌∷◌, ◌++◌, length, map, take, get_or, Some, ◌⊎◌, refl, sym, ap, ◌∙◌, subst, inl, inr, arith, append_assoc, length-append}
 use Rattle.std.specs.Prelude.{◌↔◌, slice_get, slice_index, Option}
 use Rattle.std.specs.List.{All, Contains}
 use Rattle.std.proofs.lemmas.Bool.{cases_lt}
 use Rattle.std.proofs.lemmas.List.{get_or_append_left, length-map, take-append-le}
-use Rattle.std.proofs.lemmas.List.Elements.{All-contains, All-contains_itself, All-map, All-nil, All-push, All-weaker}
+use Rattle.std.proofs.lemmas.List.Elements.{All-contains, All-contains_itself, All-map, All-push, All-weaker}
 use Rattle.std.proofs.lemmas.Option.{get_or_from_slice_get, none-some, same_Some, slice_get-get_or, slice_get_within}
 use Rattle.common_lists.proofs.ListLaws.{get_before, get_last, taken_get}
 use Rattle.plan_rule.specs.Boxes.{Covers, exact, with_literal}
@@ -24,14 +24,6 @@ pub record IsUniting (log own whole : List Record) (numbers : List ℕ) (n : ℕ
   pub size : length numbers ≡ n
   pub boxes : (i : ℕ) (r : Record) → i < n → slice_get own i ≡ Some r → HasBoxAt whole r (slice_index numbers i)
   pub steps : (yard : PlainYard) (t : Option (List ℕ)) → AreSteps (choices yard) t log → AreSteps (choices yard) t own → AreSteps (choices yard) t whole
-
-pub uniting_begins : (log own : List Record) (numbers : List ℕ) → numbers ≡ [] → IsUniting log own log numbers 0
-uniting_begins log own numbers none = record {
-  grown = ([], sym (append-nil log), All-nil (λ e. (r : Record) × Contains own r × IsRecited r e));
-  size = ap length none;
-  boxes = λ i r l at. absurd (omega arith);
-  steps = λ yard t all more. all;
-}
 
 pub uniting_ends : (log own whole : List Record) (numbers : List ℕ) (n : ℕ) → length own ≡ n → IsUniting log own whole numbers n → IsUnited log own whole numbers
 uniting_ends log own whole numbers n long h = record {
